@@ -125,6 +125,118 @@ marks =
     ∷ row 102 110 FUNCTION (TYPE ∷ COUNT ∷ []) (NAME ∷ TYPE ∷ []) EXPRESSION
     ∷ []
 
+-- the marks by number, in the order of the table
+abbrev pub TU : ℕ
+TU = 1
+
+abbrev pub TS : ℕ
+TS = 2
+
+abbrev pub TP : ℕ
+TP = 3
+
+abbrev pub VU : ℕ
+VU = 4
+
+abbrev pub VL : ℕ
+VL = 5
+
+abbrev pub VR : ℕ
+VR = 6
+
+abbrev pub VP : ℕ
+VP = 7
+
+abbrev pub PI : ℕ
+PI = 8
+
+abbrev pub PN : ℕ
+PN = 9
+
+abbrev pub PT : ℕ
+PT = 10
+
+abbrev pub EC : ℕ
+EC = 11
+
+abbrev pub EW : ℕ
+EW = 12
+
+abbrev pub EV : ℕ
+EV = 13
+
+abbrev pub ET : ℕ
+ET = 14
+
+abbrev pub EL : ℕ
+EL = 15
+
+abbrev pub E0 : ℕ
+E0 = 16
+
+abbrev pub E1 : ℕ
+E1 = 17
+
+abbrev pub EN : ℕ
+EN = 18
+
+abbrev pub EB : ℕ
+EB = 19
+
+abbrev pub SA : ℕ
+SA = 20
+
+abbrev pub SE : ℕ
+SE = 21
+
+abbrev pub EM : ℕ
+EM = 22
+
+abbrev pub EH : ℕ
+EH = 23
+
+abbrev pub CJ : ℕ
+CJ = 24
+
+abbrev pub CL : ℕ
+CL = 25
+
+abbrev pub CR : ℕ
+CR = 26
+
+abbrev pub CD : ℕ
+CD = 27
+
+abbrev pub CA : ℕ
+CA = 28
+
+abbrev pub CP : ℕ
+CP = 29
+
+abbrev pub CN : ℕ
+CN = 30
+
+abbrev pub CK : ℕ
+CK = 31
+
+abbrev pub CF : ℕ
+CF = 32
+
+abbrev pub CQ : ℕ
+CQ = 33
+
+abbrev pub CY : ℕ
+CY = 34
+
+abbrev pub CW : ℕ
+CW = 35
+
+abbrev pub CH : ℕ
+CH = 36
+
+abbrev pub FN : ℕ
+FN = 37
+
 -- the rows from k on, each beside its number
 abbrev pub numbered : ℕ → List Row → List (Case ℕ)
 numbered k [] = []

@@ -1,2 +1,6 @@
 pub mod Faults
 pub mod Format
+pub mod Read
+pub mod Index
+pub mod Ready
+pub mod Valid

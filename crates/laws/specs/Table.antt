@@ -116,3 +116,8 @@ all-from f lo n t k a b =
 -- f is v at each of the n numbers from lo on
 pub run : (f : ℕ → ℕ) (v lo n : ℕ) → T (below (λ j. eqb v (f (lo + j))) n) → (k : ℕ) → lo ≤ k → k < lo + n → v ≡ f k
 run f v lo n t k a b = eqb→eq v (f k) (all-from (λ j. eqb v (f j)) lo n t k a b)
+
+-- the test f passes at some number below n
+abbrev pub some : (ℕ → Bool) → ℕ → Bool
+some f zero = false
+some f (suc n) = pick (f n) true (some f n)

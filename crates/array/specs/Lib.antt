@@ -1,0 +1,6 @@
+pub mod Split
+pub mod Parts
+pub mod Row
+pub mod Path
+pub mod Partition
+pub mod Edges
