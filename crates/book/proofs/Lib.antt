@@ -1,1 +1,5 @@
+mod Frames
+pub mod Judging
 mod Layouts
+pub mod Moves
+mod Ways

@@ -1,33 +1,20 @@
+-- `read::count_in` meets its contract: each way by its test.
+-- Assumes nothing.
+use Rattle.book.specs.Read.{countIn}
 use borrow.Author.Needs.{needs}
+use borrow.Author.Tests.{eq-eqb, ne-eqb}
+use native.Mathlib.Omega.{arith}
 use Rattle.book.proofs.read.count_in.Statement.{statement}
 use Rattle.book.proofs.read.count_in.Tie as tie
-use Rattle.book.proofs.read.count_in.Reads as reads
-use Rattle.book.proofs.read.count_in.Lts as lts
-use Rattle.book.proofs.word.word.Reads as word-reads
-
--- src/read.rt:45:9
-returns : tie.Need-returns
-returns c = ?
-
--- src/read.rt:47:21
-mul-word : tie.Need-mul-word
-mul-word c = search needs
-
--- src/read.rt:47:16
-add-word : tie.Need-add-word
-add-word c = search needs
-
--- src/read.rt:47:5
-word-requires : tie.Need-word-requires
-word-requires c κs = search needs
-
--- src/read.rt:47:5
-cast-result : tie.Need-cast-result
-cast-result c = search needs
-
--- src/read.rt:40:1
-returns-2 : tie.Need-returns-2
-returns-2 c = ?
 
 pub count-in-spec : {M : Type 1} → statement M
-count-in-spec = tie.close (tie.spec returns mul-word add-word word-requires cast-result returns-2)
+unfolding countIn
+count-in-spec =
+    tie.close
+    (tie.spec
+    (λ c. (rw (eq-eqb _ _ (c .if1 .taken)), search needs))
+    (λ c. search needs)
+    (λ c. search needs)
+    (λ c κs. search needs)
+    (λ c. search needs)
+    (λ c. (rw (ne-eqb _ _ (c .before .before .if1 .left)) (c .word .ensures), search needs)))

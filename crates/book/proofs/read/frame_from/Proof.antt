@@ -1,73 +1,86 @@
+-- `read::frame_from` meets its contract: a cut head is a cut record.
+-- Assumes nothing.
+use Prim.Native.Nat.{ℕ, _+_, _*_}
+use Rattle.book.proofs.Frames.{total-fits, head-within, cut-frame, whole-frame, count-is, end-is}
+use Rattle.book.proofs.Layouts.{small-of}
+use Rattle.book.specs.Format.{Small, layoutOf}
+use Rattle.book.specs.Read.{layoutAt, endAt}
+use Rattle.book.specs.declared.format.Layout.{Layout}
 use borrow.Author.Needs.{needs}
+use mathlib.Core.Path.{_≡_, refl, sym, ap, _∙_}
+use native.Mathlib.Omega.{arith}
 use Rattle.book.proofs.read.frame_from.Statement.{statement}
 use Rattle.book.proofs.read.frame_from.Tie as tie
-use Rattle.book.proofs.read.frame_from.Reads as reads
-use Rattle.book.proofs.read.frame_from.Lts as lts
-use Rattle.book.proofs.format.layout_of.Reads as layout-of-reads
-use Rattle.book.proofs.format.total_of.Reads as total-of-reads
-use Rattle.book.proofs.read.count_in.Reads as count-in-reads
-
--- src/read.rt:55:9
-layout-of-requires : tie.Need-layout-of-requires
-layout-of-requires c κs = search needs
-
--- src/read.rt:57:21
-add-if1 : tie.Need-add-if1
-add-if1 c = search needs
-
--- src/read.rt:57:30
-mul-if1 : tie.Need-mul-if1
-mul-if1 c = ?
-
--- src/read.rt:57:21
-add-if1-2 : tie.Need-add-if1-2
-add-if1-2 c = ?
-
--- src/read.rt:58:9
-returns : tie.Need-returns
-returns c = ?
-
--- src/read.rt:60:9
-count-in-requires : tie.Need-count-in-requires
-count-in-requires c κs = search needs
-
--- src/read.rt:61:15
-add-end : tie.Need-add-end
-add-end c = search needs
-
--- src/read.rt:61:28
-total-of-requires : tie.Need-total-of-requires
-total-of-requires c κs = ?
-
--- src/read.rt:61:24
-mul-end : tie.Need-mul-end
-mul-end c = ?
-
--- src/read.rt:61:15
-add-end-2 : tie.Need-add-end-2
-add-end-2 c = ?
-
--- src/read.rt:63:9
-returns-2 : tie.Need-returns-2
-returns-2 c = ?
-
--- src/read.rt:51:1
-returns-3 : tie.Need-returns-3
-returns-3 c = ?
 
 pub frame-from-spec : {M : Type 1} → statement M
 frame-from-spec =
     tie.close
     (tie.spec
-    layout-of-requires
-    add-if1
-    mul-if1
-    add-if1-2
-    returns
-    count-in-requires
-    add-end
-    total-of-requires
-    mul-end
-    add-end-2
-    returns-2
-    returns-3)
+    (λ c κs. search needs)
+    (λ c. search needs)
+    (λ c.
+    let l = c .layout-of .result in
+    let b = c .before .before .args .book .now in
+    let p = c .before .before .args .at in
+    let w : Small l = rw (c .layout-of .ensures) (small-of (c .before .before .args .mark)) in
+    let is : l ≡ layoutAt b p = c .layout-of .ensures ∙ ap layoutOf (c .before .before .pre .1 .1) in
+    omega arith)
+    (λ c.
+    let l = c .layout-of .result in
+    let b = c .before .before .args .book .now in
+    let p = c .before .before .args .at in
+    let w : Small l = rw (c .layout-of .ensures) (small-of (c .before .before .args .mark)) in
+    let is : l ≡ layoutAt b p = c .layout-of .ensures ∙ ap layoutOf (c .before .before .pre .1 .1) in
+    omega arith)
+    (λ c.
+    let l = c .before .layout-of .result in
+    let b = c .before .before .before .args .book .now in
+    let p = c .before .before .before .args .at in
+    let w : Small l = rw (c .before .layout-of .ensures) (small-of (c .before .before .before .args .mark)) in
+    let is : l ≡ layoutAt b p = c .before .layout-of .ensures ∙ ap layoutOf (c .before .before .before .pre .1 .1) in
+    cut-frame b p (omega (arith, head-within b p, ap (λ (x : Layout). x .heads) is)))
+    (λ c κs. search needs)
+    (λ c. search needs)
+    (λ c κs.
+    let l = c .before .before .layout-of .result in
+    let b = c .before .before .before .before .args .book .now in
+    let p = c .before .before .before .before .args .at in
+    let w : Small l = rw (c .before .before .layout-of .ensures) (small-of (c .before .before .before .before .args .mark)) in
+    let is : l ≡ layoutAt b p = c .before .before .layout-of .ensures ∙ ap layoutOf (c .before .before .before .before .pre .1 .1) in
+    (w, c .count-in .ensures .1))
+    (λ c.
+    let l = c .before .before .before .layout-of .result in
+    let b = c .before .before .before .before .before .args .book .now in
+    let p = c .before .before .before .before .before .args .at in
+    let w : Small l = rw (c .before .before .before .layout-of .ensures) (small-of (c .before .before .before .before .before .args .mark)) in
+    let is : l ≡ layoutAt b p = c .before .before .before .layout-of .ensures ∙ ap layoutOf (c .before .before .before .before .before .pre .1 .1) in
+    omega (arith, total-fits l _ w (c .before .count-in .ensures .1), c .total-of .ensures))
+    (λ c.
+    let l = c .before .before .before .layout-of .result in
+    let b = c .before .before .before .before .before .args .book .now in
+    let p = c .before .before .before .before .before .args .at in
+    let w : Small l = rw (c .before .before .before .layout-of .ensures) (small-of (c .before .before .before .before .before .args .mark)) in
+    let is : l ≡ layoutAt b p = c .before .before .before .layout-of .ensures ∙ ap layoutOf (c .before .before .before .before .before .pre .1 .1) in
+    omega (arith, total-fits l _ w (c .before .count-in .ensures .1), c .total-of .ensures))
+    (λ c.
+    let l = c .before .before .before .before .layout-of .result in
+    let b = c .before .before .before .before .before .before .args .book .now in
+    let p = c .before .before .before .before .before .before .args .at in
+    let w : Small l = rw (c .before .before .before .before .layout-of .ensures) (small-of (c .before .before .before .before .before .before .args .mark)) in
+    let is : l ≡ layoutAt b p = c .before .before .before .before .layout-of .ensures ∙ ap layoutOf (c .before .before .before .before .before .before .pre .1 .1) in
+    let t = c .before .total-of in
+    let n = c .before .before .count-in .result in
+    let q = c .before .before .count-in .ensures in
+    let e : p + 2 + 2 * t .result ≡ endAt b p = end-is b p l is n (t .result) (q .0) (t .ensures) in
+    cut-frame b p (omega arith))
+    (λ c.
+    let l = c .before .before .before .before .layout-of .result in
+    let b = c .before .before .before .before .before .before .args .book .now in
+    let p = c .before .before .before .before .before .before .args .at in
+    let w : Small l = rw (c .before .before .before .before .layout-of .ensures) (small-of (c .before .before .before .before .before .before .args .mark)) in
+    let is : l ≡ layoutAt b p = c .before .before .before .before .layout-of .ensures ∙ ap layoutOf (c .before .before .before .before .before .before .pre .1 .1) in
+    let t = c .before .total-of in
+    let n = c .before .before .count-in .result in
+    let q = c .before .before .count-in .ensures in
+    let e : p + 2 + 2 * t .result ≡ endAt b p = end-is b p l is n (t .result) (q .0) (t .ensures) in
+    rw (c .before .before .before .before .before .before .pre .1 .1, count-is b p l is n (q .0), e) (whole-frame b p (omega arith))))

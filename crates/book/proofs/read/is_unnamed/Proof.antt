@@ -1,29 +1,21 @@
+-- `read::is_unnamed` meets its contract: each way by its tests.
+-- Assumes nothing.
+use Rattle.book.proofs.Layouts.{single-in, single-out}
+use Rattle.book.specs.Read.{isUnnamed}
 use borrow.Author.Needs.{needs}
+use borrow.Author.Tests.{eq-eqb, ne-eqb}
+use mathlib.Core.Path.{_≡_, refl, sym, ap, _∙_}
+use native.Mathlib.Omega.{arith}
 use Rattle.book.proofs.read.is_unnamed.Statement.{statement}
 use Rattle.book.proofs.read.is_unnamed.Tie as tie
-use Rattle.book.proofs.read.is_unnamed.Reads as reads
-use Rattle.book.proofs.read.is_unnamed.Lts as lts
-use Rattle.book.proofs.read.kind_at.Reads as kind-at-reads
-
--- src/read.rt:310:9
-returns : tie.Need-returns
-returns c = ?
-
--- src/read.rt:312:11
-kind-at-requires : tie.Need-kind-at-requires
-kind-at-requires c κs = search needs
-
--- src/read.rt:305:1
-returns-2 : tie.Need-returns-2
-returns-2 c = ?
-
--- src/read.rt:305:1
-returns-3 : tie.Need-returns-3
-returns-3 c = ?
-
--- src/read.rt:305:1
-returns-4 : tie.Need-returns-4
-returns-4 c = ?
 
 pub is-unnamed-spec : {M : Type 1} → statement M
-is-unnamed-spec = tie.close (tie.spec returns kind-at-requires returns-2 returns-3 returns-4)
+unfolding isUnnamed
+is-unnamed-spec =
+    tie.close
+    (tie.spec
+    (λ c. rw (ne-eqb _ _ (c .if1 .taken)))
+    (λ c κs. search needs)
+    (λ c. rw (eq-eqb _ _ (c .before .before .before .if1 .left), ← c .before .before .kind-at .ensures) (sym (single-in (c .before .before .kind-at .result) (omega arith) (omega arith))))
+    (λ c. rw (eq-eqb _ _ (c .before .before .if1 .left), ← c .before .kind-at .ensures) (sym (single-out (c .before .kind-at .result) (omega arith) (omega arith))))
+    (λ c. rw (eq-eqb _ _ (c .before .before .before .if1 .left), ← c .before .before .kind-at .ensures) (sym (single-out (c .before .before .kind-at .result) (omega arith) (omega arith)))))

@@ -1,23 +1,18 @@
+-- `read::kind_named` meets its contract: each way by its tests.
+-- Assumes nothing.
+use Rattle.book.specs.Read.{names}
+use borrow.Author.Tests.{eq-eqb, ne-eqb, le-leb, lt-leb}
+use mathlib.Core.Path.{_≡_, refl, sym, ap, _∙_}
+use native.Mathlib.Omega.{arith}
 use Rattle.book.proofs.read.kind_named.Statement.{statement}
 use Rattle.book.proofs.read.kind_named.Tie as tie
-use Rattle.book.proofs.read.kind_named.Reads as reads
-use Rattle.book.proofs.read.kind_named.Lts as lts
-
--- src/read.rt:103:17
-returns : tie.Need-returns
-returns c = ?
-
--- src/read.rt:96:1
-returns-2 : tie.Need-returns-2
-returns-2 c = ?
-
--- src/read.rt:96:1
-returns-3 : tie.Need-returns-3
-returns-3 c = ?
-
--- src/read.rt:96:1
-returns-4 : tie.Need-returns-4
-returns-4 c = ?
 
 pub kind-named-spec : {M : Type 1} → statement M
-kind-named-spec = tie.close (tie.spec returns returns-2 returns-3 returns-4)
+unfolding names
+kind-named-spec =
+    tie.close
+    (tie.spec
+    (λ c. rw (c .before .match .keys1, eq-eqb _ _ (c .if1 .taken)))
+    (λ c. rw (c .before .match .keys1, ne-eqb _ _ (c .if1 .left)))
+    (λ c. rw (ne-eqb (c .before .before .args .role) 16 (c .before .match .rest .1), le-leb (c .before .before .args .role) 6 (omega arith)))
+    (λ c. rw (ne-eqb (c .before .before .args .role) 16 (c .before .match .rest .1), lt-leb (c .before .before .args .role) 6 (omega arith))))

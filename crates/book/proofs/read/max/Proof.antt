@@ -1,15 +1,14 @@
+-- `read::max` meets its contract: each way by its test.
+-- Assumes nothing.
+use Rattle.book.specs.Read.{deeper}
+use borrow.Author.Tests.{le-ltb, lt-ltb}
 use Rattle.book.proofs.read.max.Statement.{statement}
 use Rattle.book.proofs.read.max.Tie as tie
-use Rattle.book.proofs.read.max.Reads as reads
-use Rattle.book.proofs.read.max.Lts as lts
-
--- src/read.rt:115:9
-returns : tie.Need-returns
-returns c = ?
-
--- src/read.rt:111:1
-returns-2 : tie.Need-returns-2
-returns-2 c = ?
 
 pub max-spec : {M : Type 1} → statement M
-max-spec = tie.close (tie.spec returns returns-2)
+unfolding deeper
+max-spec =
+    tie.close
+    (tie.spec
+    (λ c. rw (lt-ltb _ _ (c .if1 .taken)))
+    (λ c. rw (le-ltb _ _ (c .if1 .left))))

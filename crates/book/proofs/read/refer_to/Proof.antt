@@ -1,78 +1,31 @@
+-- `read::refer_to` meets its contract: each way by its law.
+-- Assumes nothing.
+use Prim.Native.Nat.{_+_}
+use Rattle.book.proofs.Frames.{mark-within}
+use Rattle.book.proofs.Ways.{refer-late, refer-other, refer-single, refer-free}
+use Rattle.book.proofs.Layouts.{single-in, single-out}
 use borrow.Author.Needs.{needs}
+use denote.Ref.{now}
+use lib.ListN.{getD}
+use mathlib.Core.Path.{_≡_, refl, sym, ap, _∙_}
+use native.Mathlib.Omega.{arith}
 use Rattle.book.proofs.read.refer_to.Statement.{statement}
 use Rattle.book.proofs.read.refer_to.Tie as tie
-use Rattle.book.proofs.read.refer_to.Reads as reads
-use Rattle.book.proofs.read.refer_to.Lts as lts
-use Rattle.book.proofs.read.kind_at.Reads as kind-at-reads
-use Rattle.book.proofs.read.max.Reads as max-reads
-use Rattle.book.proofs.read.name_once.Reads as name-once-reads
-
--- src/read.rt:147:9
-returns : tie.Need-returns
-returns c = ?
-
--- src/read.rt:149:14
-mul-at : tie.Need-mul-at
-mul-at c = search needs
-
--- src/read.rt:149:14
-shared-slice-read-at : tie.Need-shared-slice-read-at
-shared-slice-read-at c = search needs
-
--- src/read.rt:149:14
-cast-at : tie.Need-cast-at
-cast-at c = ?
-
--- src/read.rt:150:8
-kind-at-requires : tie.Need-kind-at-requires
-kind-at-requires c κs = ?
-
--- src/read.rt:151:9
-returns-2 : tie.Need-returns-2
-returns-2 c = ?
-
--- src/read.rt:153:23
-shared-slice-read-max : tie.Need-shared-slice-read-max
-shared-slice-read-max c = search needs
-
--- src/read.rt:153:9
-max-requires : tie.Need-max-requires
-max-requires c κs = search needs
-
--- src/read.rt:155:35
-name-once-requires : tie.Need-name-once-requires
-name-once-requires c κs = search needs
-
--- src/read.rt:133:1
-same-length : tie.Need-same-length
-same-length c = search needs
-
--- src/read.rt:133:1
-returns-3 : tie.Need-returns-3
-returns-3 c = ?
-
--- src/read.rt:133:1
-returns-4 : tie.Need-returns-4
-returns-4 c = ?
-
--- src/read.rt:133:1
-returns-5 : tie.Need-returns-5
-returns-5 c = ?
 
 pub refer-to-spec : {M : Type 1} → statement M
 refer-to-spec =
     tie.close
     (tie.spec
-    returns
-    mul-at
-    shared-slice-read-at
-    cast-at
-    kind-at-requires
-    returns-2
-    shared-slice-read-max
-    max-requires
-    name-once-requires
-    same-length
-    returns-3
-    returns-4
-    returns-5)
+    (λ c. refer-late _ _ _ _ _ _ _ _ (c .if1 .taken))
+    (λ c. search needs)
+    (λ c. search needs)
+    (λ c. omega (arith, c .shared-slice-known4 .given (c .before .before .before .before .before .before .args .x)))
+    (λ c κs. let w = c .before .before .before .before .before .before .pre .rows .inside (c .before .before .before .before .before .before .args .x) (omega arith) in omega (arith, w .ends, mark-within (now (c .before .before .before .before .before .before .args .book)) (getD (c .before .before .before .before .before .before .args .index .now) (c .before .before .before .before .before .before .args .x) 0)))
+    (λ c. refer-other _ _ _ _ _ _ _ _ (c .before .before .before .if1 .left) (λ e. c .if2 .taken (c .before .kind-at .ensures ∙ e)))
+    (λ c. search needs)
+    (λ c κs. search needs)
+    (λ c κs. search needs)
+    (λ c. search needs)
+    (λ c. c .before .before .name-once .ensures ∙ rw (c .before .before .before .before .before .before .max .ensures) (refer-single _ _ _ _ _ _ _ _ (c .before .before .before .before .before .before .before .before .before .before .before .if1 .left) (sym (c .before .before .before .before .before .before .before .before .before .kind-at .ensures) ∙ c .before .before .before .before .before .before .before .before .if2 .left) (single-in (c .before .before .before .before .before .before .before .before .before .before .before .before .before .before .before .before .args .kind) (omega arith) (omega arith))))
+    (λ c. rw (c .before .max .ensures) (refer-free _ _ _ _ _ _ _ _ (c .before .before .before .before .before .before .if1 .left) (sym (c .before .before .before .before .kind-at .ensures) ∙ c .before .before .before .if2 .left) (single-out (c .before .before .before .before .before .before .before .before .before .before .before .args .kind) (omega arith) (omega arith))))
+    (λ c. rw (c .before .before .max .ensures) (refer-free _ _ _ _ _ _ _ _ (c .before .before .before .before .before .before .before .if1 .left) (sym (c .before .before .before .before .before .kind-at .ensures) ∙ c .before .before .before .before .if2 .left) (single-out (c .before .before .before .before .before .before .before .before .before .before .before .before .args .kind) (omega arith) (omega arith)))))
