@@ -1,4 +1,7 @@
+mod Alikes
+mod Endings
 mod Frames
+mod Going
 pub mod Judging
 mod Layouts
 pub mod Moves

@@ -152,8 +152,11 @@ abbrev pub start : State
 start = state 0 0 (replicate 4096 0) (replicate 4096 0) (replicate 4096 0)
 
 -- document 01, Refusal 1: a book of 1 to 65,535 bytes
+unfoldable pub sized : ℕ → Bool
+sized n = both (ltb 0 n) (ltb n 65536)
+
 unfoldable pub reading : List ℕ → Outcome
-reading b = elim (both (ltb 0 (length b)) (ltb (length b) 65536)) [ true ↦ records 4096 b start | false ↦ refused (refusal Size 0) ]
+reading b = elim (sized (length b)) [ true ↦ records 4096 b start | false ↦ refused (refusal Size 0) ]
 
 -- READ's answer, and the index: where each record begins, zeros beyond; after a refusal zeros throughout
 abbrev pub answerOf : Outcome → ReadAnswer

@@ -3,13 +3,13 @@ ghost use mathlib.Core.Path.{_≡_};
 ghost use mathlib.Core.List.{List};
 ghost use Prim.Native.Nat.{ℕ, _+_, _*_, _-_, _≤_, _<_};
 ghost use lib.ListN.{length};
-ghost use Rattle.book.specs.Format.{TYPE};
-ghost use Rattle.book.specs.Read.{markAt, kindAt, countIn, countAt, totalAt, endAt, roleAt, names, deeper, once, refer, judge, fields, alike, repeats, state, settle, step, isUnnamed, loose, records, readOf, indexOf, good};
+ghost use Rattle.book.specs.Format.{TYPE, kindOf};
+ghost use Rattle.book.specs.Read.{markAt, kindAt, countIn, countAt, totalAt, endAt, roleAt, names, deeper, once, refer, judge, fields, alike, repeats, state, settle, step, isUnnamed, loose, records, sized, readOf, indexOf, good};
 ghost use Rattle.book.specs.Ready.{Framed, Opens, Rows, Ready, frameFrom, frameOf, verdictOf, movedOf, outcomeOf};
 
 use crate::fault::{Fault, ReadAnswer, Refusal};
 use crate::format::{in_range, kind_of, layout_of, mark_of, role_of, total_of, Layout};
-use crate::format::{END, EXPRESSION, FUNCTION, STATEMENT, TYPE};
+use crate::format::{END, EXPRESSION, FUNCTION, STATEMENT, TU, TYPE};
 use crate::word::word;
 
 // A record's mark, how often its group stands, and where it ends; or why there is none.
@@ -216,16 +216,15 @@ fn judge_fields(
     Judged::Good(deep)
 }
 
-// Whether two types have the same letters and the same fields.
-fn is_alike(book: &[u8], at: usize, other: usize) -> bool
-    requires { ⌜ Framed (now book) at ⌝ ∗ ⌜ Framed (now book) other ⌝ ∗ ⌜ kindAt (now book) at ≡ TYPE ⌝ ∗ ⌜ length (now book) < 65536 ⌝ }
+// Whether two types have the same letters and the same fields: none, or two.
+fn is_alike(book: &[u8], at: usize, mark: u8, other: usize) -> bool
+    requires { ⌜ Framed (now book) at ⌝ ∗ ⌜ Framed (now book) other ⌝ ∗ ⌜ mark ≡ markAt (now book) at ⌝ ∗ ⌜ kindOf mark ≡ TYPE ⌝ ∗ ⌜ length (now book) < 65536 ⌝ }
     ensures { λ r. ⌜ r ≡ alike (now (book .entry)) at other ⌝ }
 {
-    let letters = word(book, at);
-    if letters != word(book, other) {
+    if word(book, at) != word(book, other) {
         return false;
     }
-    if letters == 0x7574 {
+    if mark == TU {
         return true;
     }
     if word(book, at + 4) != word(book, other + 4) {
@@ -246,7 +245,7 @@ fn is_repeated(book: &[u8], index: &[u16], r: usize, at: usize, mark: u8) -> boo
     while 0 < j {
         j -= 1;
         let other = index[j] as usize;
-        if is_alike(book, at, other) {
+        if is_alike(book, at, mark, other) {
             return true;
         }
     }
@@ -371,21 +370,31 @@ fn read_records(book: &[u8], index: &mut [u16], named: &mut [u8], depths: &mut [
     judge_loose(book, index, named, r)
 }
 
+// A book has 1 to 65,535 bytes.
+fn is_sized(n: usize) -> bool
+    ensures { λ r. ⌜ r ≡ sized n ⌝ }
+{
+    if n == 0 {
+        return false;
+    }
+    n < 65536
+}
+
 // READ, with the index of the records: where each begins.
 pub fn index_book(book: &[u8]) -> Indexed
     ensures { λ r. ⌜ (r .answer ≡ readOf (now (book .entry))) × (r .index ≡ indexOf (now (book .entry))) ⌝ }
 {
-    let mut index = [0u16; 4096];
     let none = [0u16; 4096];
-    if book.len() == 0 || 65535 < book.len() {
+    if !is_sized(book.len()) {
         return Indexed {
             answer: ReadAnswer::Refused(Refusal {
                 fault: Fault::Size,
                 place: 0,
             }),
-            index: index,
+            index: none,
         };
     }
+    let mut index = [0u16; 4096];
     let mut named = [0u8; 4096];
     let mut depths = [0u8; 4096];
     match read_records(book, &mut index, &mut named, &mut depths) {

@@ -1,63 +1,22 @@
+-- `read::is_repeated` meets its contract: what is left of the earlier records answers for them all.
+-- Assumes nothing.
+use Prim.Native.Nat.{ℕ, _-_, _≤_}
+use Rattle.book.proofs.Alikes.{repeats-not, repeats-some, some-here, some-on}
+use Rattle.book.specs.Read.{alike}
+use Rattle.laws.specs.Table.{some}
+use borrow.Author.Needs.{needs}
+use lib.ListN.{getD}
+use mathlib.Core.Bool.{Bool, true, false}
+use mathlib.Core.Path.{_≡_, refl, sym, ap, _∙_}
+use native.Mathlib.Omega.{arith}
 use Rattle.book.proofs.read.is_repeated.Statement.{statement}
 use Rattle.book.proofs.read.is_repeated.Tie as tie
-use Rattle.book.proofs.read.is_repeated.Reads as reads
-use Rattle.book.proofs.read.is_repeated.Lts as lts
-use Rattle.book.proofs.format.kind_of.Reads as kind-of-reads
-use Rattle.book.proofs.read.is_alike.Reads as is-alike-reads
 
 abbrev Inv-loop : tie.InvT-loop
-Inv-loop book index r at mark j₀ j = ?
+Inv-loop book index r at mark j₀ j = (some (λ k. alike book at (getD index k 0)) j ≡ some (λ k. alike book at (getD index k 0)) r) × (j ≤ r)
 
 abbrev μ-loop : tie.MeasureT-loop
-μ-loop book index r at mark j₀ j = ?
-
--- src/read.rt:242:8
-kind-of-requires : tie.Need-kind-of-requires Inv-loop μ-loop
-kind-of-requires c κs = ?
-
--- src/read.rt:243:9
-returns : tie.Need-returns Inv-loop μ-loop
-returns c = ?
-
--- src/read.rt:246:5
-loop-holds : tie.Need-loop-holds Inv-loop μ-loop
-loop-holds c = ?
-
--- src/read.rt:247:9
-sub-j : tie.Need-sub-j Inv-loop μ-loop
-sub-j c = ?
-
--- src/read.rt:248:21
-mul-other : tie.Need-mul-other Inv-loop μ-loop
-mul-other c = ?
-
--- src/read.rt:248:21
-shared-slice-read-other : tie.Need-shared-slice-read-other Inv-loop μ-loop
-shared-slice-read-other c = ?
-
--- src/read.rt:248:21
-cast-other : tie.Need-cast-other Inv-loop μ-loop
-cast-other c = ?
-
--- src/read.rt:249:12
-is-alike-requires : tie.Need-is-alike-requires Inv-loop μ-loop
-is-alike-requires c κs = ?
-
--- src/read.rt:250:13
-returns-2 : tie.Need-returns-2 Inv-loop μ-loop
-returns-2 c = ?
-
--- src/read.rt:246:5
-loop-less : tie.Need-loop-less Inv-loop μ-loop
-loop-less c = ?
-
--- src/read.rt:246:5
-loop-again : tie.Need-loop-again Inv-loop μ-loop
-loop-again c = ?
-
--- src/read.rt:238:1
-returns-3 : tie.Need-returns-3 Inv-loop μ-loop
-returns-3 c = ?
+μ-loop book index r at mark j₀ j = j
 
 pub is-repeated-spec : {M : Type 1} → statement M
 is-repeated-spec =
@@ -65,15 +24,33 @@ is-repeated-spec =
     (tie.spec
     Inv-loop
     μ-loop
-    kind-of-requires
-    returns
-    loop-holds
-    sub-j
-    mul-other
-    shared-slice-read-other
-    cast-other
-    is-alike-requires
-    returns-2
-    loop-less
-    loop-again
-    returns-3)
+    (λ c κs. search needs)
+    (λ c. repeats-not _ _ _ _ _ (c .before .before .before .before .pre .1 .1) (λ e. c .if1 .taken (c .before .kind-of .ensures ∙ e)))
+    (λ c. (refl, search needs))
+    (λ c. search needs)
+    (λ c. search needs)
+    (λ c. let w = c .before .before .before .before .before .before .before .pre .0 in omega (arith, w .few, w .indexed))
+    (λ c. omega (arith, c .shared-slice-known3 .given (c .before .before .loop .j - 1)))
+    (λ c κs.
+    let s = c .before .before .before .before .before .before .before in
+    (
+      s .pre .1 .0,
+      (
+        s .pre .0 .inside (c .before .before .loop .j - 1) (omega arith),
+        (s .pre .1 .1, (sym (c .before .before .before .before .kind-of .ensures) ∙ c .before .before .before .if1 .left, s .pre .0 .size)),
+      ),
+    ))
+    (λ c.
+    let s = c .before .before .before .before .before .before .before .before .before in
+    let f : ℕ → Bool = λ k. alike (s .args .book .now) (s .args .at) (getD (s .args .index .now) k 0) in
+    repeats-some _ _ _ _ _ (s .pre .1 .1) (sym (c .before .before .before .before .before .before .kind-of .ensures) ∙ c .before .before .before .before .before .if1 .left) true (sym (c .before .before .before .before .loop .inv .0) ∙ some-here f _ (c .before .before .before .loop-test .taken) (sym (c .before .is-alike .ensures) ∙ c .if2 .taken)))
+    (λ c. omega arith)
+    (λ c.
+    let s = c .before .before .before .before .before .before .before .before .before in
+    let f : ℕ → Bool = λ k. alike (s .args .book .now) (s .args .at) (getD (s .args .index .now) k 0) in
+    (some-on f _ (c .before .before .before .loop-test .taken) (sym (c .before .is-alike .ensures) ∙ c .if2 .left) ∙ c .before .before .before .before .loop .inv .0, omega arith))
+    (λ c.
+    let s = c .before .before .before .before .before .before in
+    let f : ℕ → Bool = λ k. alike (s .args .book .now) (s .args .at) (getD (s .args .index .now) k 0) in
+    let z : c .before .loop .j ≡ 0 = omega arith in
+    repeats-some _ _ _ _ _ (s .pre .1 .1) (sym (c .before .before .before .kind-of .ensures) ∙ c .before .before .if1 .left) false (sym (c .before .loop .inv .0) ∙ rw z)))

@@ -1,95 +1,23 @@
+-- `read::judge_loose` meets its contract: what is left of the records answers for them all.
+-- Assumes nothing.
+use Prim.Native.Nat.{ℕ, _+_, _-_, _≤_}
+use Rattle.book.proofs.Endings.{loose-here, loose-on, loose-last, loose-none, loose-all}
+use Rattle.book.proofs.Frames.{mark-within}
+use Rattle.book.specs.Read.{loose, state}
+use borrow.Author.Needs.{needs}
+use lib.ListN.{getD}
+use mathlib.Core.List.{List}
+use mathlib.Core.Path.{_≡_, refl, sym, ap, _∙_}
+use native.Mathlib.Omega.{arith}
 use Rattle.book.proofs.read.judge_loose.Statement.{statement}
 use Rattle.book.proofs.read.judge_loose.Tie as tie
-use Rattle.book.proofs.read.judge_loose.Reads as reads
-use Rattle.book.proofs.read.judge_loose.Lts as lts
-use Rattle.book.proofs.read.is_unnamed.Reads as is-unnamed-reads
-use Rattle.book.proofs.read.kind_at.Reads as kind-at-reads
 
 abbrev Inv-loop : tie.InvT-loop
-Inv-loop book index named count j₀ j = ?
+Inv-loop book index named count j₀ j =
+    ((p : ℕ) (ds : List ℕ) → loose book (state p count index named ds) j (count - 1 - j) ≡ loose book (state p count index named ds) j₀ (count - 1 - j₀)) × (j + 1 ≤ count)
 
 abbrev μ-loop : tie.MeasureT-loop
-μ-loop book index named count j₀ j = ?
-
--- src/read.rt:324:5
-loop-holds : tie.Need-loop-holds Inv-loop μ-loop
-loop-holds c = ?
-
--- src/read.rt:324:11
-add-loop : tie.Need-add-loop Inv-loop μ-loop
-add-loop c = ?
-
--- src/read.rt:325:18
-mul-at : tie.Need-mul-at Inv-loop μ-loop
-mul-at c = ?
-
--- src/read.rt:325:18
-shared-slice-read-at : tie.Need-shared-slice-read-at Inv-loop μ-loop
-shared-slice-read-at c = ?
-
--- src/read.rt:325:18
-cast-at : tie.Need-cast-at Inv-loop μ-loop
-cast-at c = ?
-
--- src/read.rt:326:33
-shared-slice-read-is-unnamed : tie.Need-shared-slice-read-is-unnamed Inv-loop μ-loop
-shared-slice-read-is-unnamed c = ?
-
--- src/read.rt:326:12
-is-unnamed-requires : tie.Need-is-unnamed-requires Inv-loop μ-loop
-is-unnamed-requires c κs = ?
-
--- src/read.rt:329:24
-cast-t16 : tie.Need-cast-t16 Inv-loop μ-loop
-cast-t16 c = ?
-
--- src/read.rt:327:13
-returns : tie.Need-returns Inv-loop μ-loop
-returns c = ?
-
--- src/read.rt:332:9
-add-j : tie.Need-add-j Inv-loop μ-loop
-add-j c = ?
-
--- src/read.rt:324:5
-loop-less : tie.Need-loop-less Inv-loop μ-loop
-loop-less c = ?
-
--- src/read.rt:324:5
-loop-again : tie.Need-loop-again Inv-loop μ-loop
-loop-again c = ?
-
--- src/read.rt:334:16
-mul-last : tie.Need-mul-last Inv-loop μ-loop
-mul-last c = ?
-
--- src/read.rt:334:16
-shared-slice-read-last : tie.Need-shared-slice-read-last Inv-loop μ-loop
-shared-slice-read-last c = ?
-
--- src/read.rt:334:16
-cast-last : tie.Need-cast-last Inv-loop μ-loop
-cast-last c = ?
-
--- src/read.rt:335:8
-kind-at-requires : tie.Need-kind-at-requires Inv-loop μ-loop
-kind-at-requires c κs = ?
-
--- src/read.rt:338:20
-cast-t24 : tie.Need-cast-t24 Inv-loop μ-loop
-cast-t24 c = ?
-
--- src/read.rt:336:9
-returns-2 : tie.Need-returns-2 Inv-loop μ-loop
-returns-2 c = ?
-
--- src/read.rt:341:25
-cast-t20 : tie.Need-cast-t20 Inv-loop μ-loop
-cast-t20 c = ?
-
--- src/read.rt:319:1
-returns-3 : tie.Need-returns-3 Inv-loop μ-loop
-returns-3 c = ?
+μ-loop book index named count j₀ j = count - j
 
 pub judge-loose-spec : {M : Type 1} → statement M
 judge-loose-spec =
@@ -97,23 +25,29 @@ judge-loose-spec =
     (tie.spec
     Inv-loop
     μ-loop
-    loop-holds
-    add-loop
-    mul-at
-    shared-slice-read-at
-    cast-at
-    shared-slice-read-is-unnamed
-    is-unnamed-requires
-    cast-t16
-    returns
-    add-j
-    loop-less
-    loop-again
-    mul-last
-    shared-slice-read-last
-    cast-last
-    kind-at-requires
-    cast-t24
-    returns-2
-    cast-t20
-    returns-3)
+    (λ c. ((λ p ds. refl), omega arith))
+    (λ c. omega (arith, c .before .before .before .before .pre .0 .few))
+    (λ c. search needs)
+    (λ c. omega (arith, c .before .before .before .before .before .before .pre .0 .few, c .before .before .before .before .before .before .pre .0 .indexed))
+    (λ c. omega (arith, c .shared-slice-known4 .given (c .before .before .loop .j)))
+    (λ c. omega (arith, c .before .before .before .before .before .before .before .pre .0 .few, c .before .before .before .before .before .before .before .pre .1 .0))
+    (λ c κs.
+    let s = c .before .before .before .before .before .before .before in
+    let j = c .before .before .before .loop .j in
+    omega (arith, s .pre .0 .inside j (omega arith) .ends, mark-within (s .args .book .now) (getD (s .args .index .now) j 0)))
+    (λ c. omega (arith, c .before .before .before .before .before .before .before .before .before .pre .0 .few))
+    (λ c p ds. loose-here _ _ _ _ (omega arith) (sym (c .before .is-unnamed .ensures) ∙ c .if1 .taken) ∙ (c .before .before .before .before .before .loop .inv .0 p ds ∙ loose-all _ _ _))
+    (λ c. omega (arith, c .before .before .before .before .before .before .before .before .before .pre .0 .few))
+    (λ c. omega arith)
+    (λ c. ((λ p ds. loose-on _ _ _ _ (omega arith) (sym (c .before .is-unnamed .ensures) ∙ c .if1 .left) ∙ c .before .before .before .before .before .loop .inv .0 p ds), omega arith))
+    (λ c. search needs)
+    (λ c. omega (arith, c .before .before .before .before .before .before .pre .0 .few, c .before .before .before .before .before .before .pre .0 .indexed))
+    (λ c. omega (arith, c .shared-slice-known6 .given (c .before .before .loop .j)))
+    (λ c κs.
+    let s = c .before .before .before .before .before .before in
+    let j = c .before .before .loop .j in
+    omega (arith, s .pre .0 .inside j (omega arith) .ends, mark-within (s .args .book .now) (getD (s .args .index .now) j 0)))
+    (λ c. omega (arith, c .before .before .before .before .before .before .before .before .pre .0 .few))
+    (λ c p ds. loose-last _ _ _ _ (omega arith) (λ e. c .if2 .taken (c .before .kind-at .ensures ∙ e)) ∙ (c .before .before .before .before .loop .inv .0 p ds ∙ loose-all _ _ _))
+    (λ c. omega (arith, c .before .before .before .before .before .before .before .before .pre .0 .few))
+    (λ c p ds. loose-none _ _ _ _ (omega arith) (sym (c .before .kind-at .ensures) ∙ c .if2 .left) ∙ (c .before .before .before .before .loop .inv .0 p ds ∙ loose-all _ _ _)))

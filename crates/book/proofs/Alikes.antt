@@ -1,0 +1,89 @@
+-- When two types are alike, and when one is alike an earlier one, a law for each way through.
+-- Assumes nothing.
+use Prim.Native.Nat.{ℕ, zero, suc, _+_, _*_, _-_, _≤_, _<_}
+use mathlib.Core.Path.{_≡_, refl, sym, ap, _∙_}
+use mathlib.Core.Bool.{Bool, true, false}
+use mathlib.Core.Logic.{⊎-elim, inr}
+use mathlib.Core.List.{List, []}
+use native.Mathlib.Omega.{arith}
+use native.Mathlib.Decide.{decLt}
+use borrow.Author.Tests.{eq-eqb, ne-eqb}
+use lib.Dec.{T, eqb, leb, leb→le}
+use lib.ListN.{getD}
+use Rattle.laws.specs.Table.{pick, both, some, arm, all-below, both-left, both-right}
+use Rattle.book.specs.Format.{wordAt, kindOf, layoutOf, totalOf, rowOf, Row, beyond, within, TYPE, TU}
+use Rattle.book.specs.Read.{markAt, kindAt, fieldAt, countIn, countAt, totalAt, alike, repeats}
+
+both-true : (x : Bool) → both x true ≡ x
+both-true true = refl
+both-true false = refl
+
+-- the marks of types
+type-mark : (m : ℕ) → kindOf m ≡ TYPE → (1 ≤ m) × (m ≤ 3)
+unfolding kindOf within
+type-mark m e = elim (decLt m 38) [
+  | yes h ↦ (let t : T (within 1 3 m) = rw (eq-eqb (kindOf m) TYPE e) at (all-below (λ k. pick (eqb (kindOf k) TYPE) (within 1 3 k) true) 38 tt m h) in
+    (leb→le 1 m (both-left (leb 1 m) (leb m 3) t), leb→le m 3 (both-right (leb 1 m) (leb m 3) t)))
+  | no g ↦ absurd (let z : _≡_ {A = ℕ} 0 1 = sym (ap (λ (r : Row). r .kind) (beyond m (omega arith))) ∙ e in omega arith)
+]
+
+module _ (b : List ℕ) (p : ℕ) where
+  -- unit has no field, and the other types have two
+  pub no-fields : (m : ℕ) → m ≡ markAt b p → m ≡ TU → totalAt b p ≡ 0
+  unfolding totalAt countAt countIn layoutOf totalOf
+  no-fields m q e = rw (sym q ∙ e)
+
+  pub two-fields : (m : ℕ) → m ≡ markAt b p → kindOf m ≡ TYPE → (m ≡ TU → ⊥) → totalAt b p ≡ 2
+  unfolding totalAt countAt countIn layoutOf totalOf
+  two-fields m q e u =
+      let w = type-mark m e in
+      rw (← q) (sym (arm [] (λ k. totalOf (layoutOf k) (countIn b p (layoutOf k))) 2 2 2 (inr refl, (inr refl, tt)) m refl (omega arith) (omega arith)))
+
+  pub first-field : fieldAt b p 0 ≡ wordAt b (p + 2)
+  unfolding fieldAt
+  first-field = ap (wordAt b) (omega arith)
+
+  pub second-field : fieldAt b p 1 ≡ wordAt b (p + 4)
+  unfolding fieldAt
+  second-field = ap (wordAt b) (omega arith)
+
+module _ (b : List ℕ) (p q : ℕ) where
+  pub alike-letters : (wordAt b p ≡ wordAt b q → ⊥) → false ≡ alike b p q
+  unfolding alike
+  alike-letters n = rw (ne-eqb (wordAt b p) (wordAt b q) n)
+
+  module _ (letters : wordAt b p ≡ wordAt b q) where
+    pub alike-none : totalAt b p ≡ 0 → true ≡ alike b p q
+    unfolding alike
+    alike-none e = rw (eq-eqb (wordAt b p) (wordAt b q) letters, e)
+
+    pub alike-second : totalAt b p ≡ 2 → (wordAt b (p + 4) ≡ wordAt b (q + 4) → ⊥) → false ≡ alike b p q
+    unfolding alike
+    alike-second e n = rw (eq-eqb (wordAt b p) (wordAt b q) letters, e, second-field b p, second-field b q, ne-eqb (wordAt b (p + 4)) (wordAt b (q + 4)) n)
+
+    pub alike-first : totalAt b p ≡ 2 → wordAt b (p + 4) ≡ wordAt b (q + 4) → eqb (wordAt b (p + 2)) (wordAt b (q + 2)) ≡ alike b p q
+    unfolding alike
+    alike-first e n = rw (eq-eqb (wordAt b p) (wordAt b q) letters, e, second-field b p, second-field b q, eq-eqb (wordAt b (p + 4)) (wordAt b (q + 4)) n, first-field b p, first-field b q) (sym (both-true _))
+
+module _ (b i : List ℕ) (r p m : ℕ) (is : m ≡ markAt b p) where
+  pub repeats-not : (kindOf m ≡ TYPE → ⊥) → false ≡ repeats b i r p
+  unfolding repeats kindAt
+  repeats-not n = rw (← is, ne-eqb (kindOf m) TYPE n)
+
+  pub repeats-some : kindOf m ≡ TYPE → (t : Bool) → some (λ j. alike b p (getD i j 0)) r ≡ t → t ≡ repeats b i r p
+  unfolding repeats kindAt
+  repeats-some e t s = rw (← is, eq-eqb (kindOf m) TYPE e) (sym s)
+
+-- a test passes below n, where it passes at the number before n, and goes on below that, where it does not
+module _ (f : ℕ → Bool) (n : ℕ) (more : 0 < n) where
+  pub some-here : f (n - 1) ≡ true → some f n ≡ true
+  some-here e = let q : n ≡ suc (n - 1) = omega arith in rw q (here (n - 1) e)
+    where
+      here : (k : ℕ) → f k ≡ true → some f (suc k) ≡ true
+      here k e = rw e
+
+  pub some-on : f (n - 1) ≡ false → some f (n - 1) ≡ some f n
+  some-on e = let q : n ≡ suc (n - 1) = omega arith in sym (on (n - 1) e) ∙ ap (some f) (sym q)
+    where
+      on : (k : ℕ) → f k ≡ false → some f (suc k) ≡ some f k
+      on k e = rw e

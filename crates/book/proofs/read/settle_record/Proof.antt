@@ -1,0 +1,27 @@
+-- `read::settle_record` meets its contract: each way by its law.
+-- Assumes nothing.
+use Rattle.book.proofs.Endings.{settle-twice, settle-deep, settle-on}
+use Rattle.book.proofs.Frames.{mark-within}
+use borrow.Author.Needs.{needs}
+use mathlib.Core.Path.{_≡_, refl, sym, ap, _∙_}
+use native.Mathlib.Omega.{arith}
+use Rattle.book.proofs.read.settle_record.Statement.{statement}
+use Rattle.book.proofs.read.settle_record.Tie as tie
+
+pub settle-record-spec : {M : Type 1} → statement M
+settle-record-spec =
+    tie.close
+    (tie.spec
+    (λ c κs. search needs)
+    (λ c. search needs)
+    (λ c nm m. settle-twice _ _ _ _ (sym (c .before .is-repeated .ensures) ∙ c .if1 .taken))
+    (λ c. search needs)
+    (λ c nm m. settle-deep _ _ _ _ (sym (c .before .before .is-repeated .ensures) ∙ c .before .if1 .left) (omega arith))
+    (λ c. omega (arith, c .before .before .before .before .before .before .before .pre .0 .size, c .before .before .before .before .before .before .before .pre .1 .1 .1 .framed .ends, mark-within (c .before .before .before .before .before .before .before .args .book .now) (c .before .before .before .before .before .before .before .args .at)))
+    (λ c. search needs)
+    (λ c. search needs)
+    (λ c. search needs)
+    (λ c. search needs)
+    (λ c. search needs)
+    (λ c. search needs)
+    (λ c nm m. settle-on _ _ _ _ (sym (c .before .before .is-repeated .ensures) ∙ c .before .if1 .left) (omega arith) _ (c .before .before .before .before .before .before .before .pre .1 .1 .1 .end)))
