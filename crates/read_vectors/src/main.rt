@@ -33,6 +33,10 @@ fn low_first(a: u8, b: u8) -> u16 {
     (a as u16) + 256 * (b as u16)
 }
 
+fn size_of(a: u8, b: u8, c: u8) -> usize {
+    (a as usize) + 256 * (b as usize) + 65536 * (c as usize)
+}
+
 fn is_right(head: [u8; 8], got: Expected) -> bool {
     if got.number != head[0] {
         return false;
@@ -43,31 +47,44 @@ fn is_right(head: [u8; 8], got: Expected) -> bool {
     got.count == low_first(head[3], head[4])
 }
 
-// The next vector, run.
-fn is_next_right(head: [u8; 8], buffer: &mut [u8; 131072]) -> bool {
-    let size = (low_first(head[5], head[6]) as usize) + 65536 * (head[7] as usize);
+// The next book, read into all of the part, and run.
+fn is_book_right(head: [u8; 8], part: &mut [u8]) -> bool {
+    let n = io::read_full(STDIN_FILENO, part);
+    is_right(head, given(book::read::read(&part[..n])))
+}
+
+// The next vector, in room for a book that is too long by far.
+fn is_next_right(head: [u8; 8]) -> bool {
+    let mut buffer = [0u8; 131072];
+    let size = size_of(head[5], head[6], head[7]);
     if 131072 < size {
         return false;
     }
-    let n = io::read_full(STDIN_FILENO, &mut buffer[..size]);
-    is_right(head, given(book::read::read(&buffer[..n])))
+    is_book_right(head, &mut buffer[..size])
+}
+
+fn print_wrong(i: u64) {
+    console::print_count(b"wrong", i);
+}
+
+fn print_totals(run: u64, wrong: u64) {
+    console::print_count(b"vectors", run);
+    console::print_count(b"wrong", wrong);
 }
 
 fn main() {
-    let mut buffer = [0u8; 131072];
     let mut head = [0u8; 8];
     let mut run: u64 = 0;
     let mut wrong: u64 = 0;
-    for i in 0..1000000u64 {
+    while run < 1000000 {
         if io::read_full(STDIN_FILENO, &mut head) < 8 {
             break;
         }
-        run = i + 1;
-        if !is_next_right(head, &mut buffer) {
-            console::print_count(b"wrong", i);
+        if !is_next_right(head) {
+            print_wrong(run);
             wrong += 1;
         }
+        run += 1;
     }
-    console::print_count(b"vectors", run);
-    console::print_count(b"wrong", wrong);
+    print_totals(run, wrong);
 }
