@@ -1,9 +1,9 @@
 -- The records of a book by their numbers: `i` is the index, the row of the places where they begin.
 -- Assumes nothing.
-use Prim.Native.Nat.{ℕ, zero, suc, _+_}
+use Prim.Native.Nat.{ℕ, zero, suc, _+_, _*_, _≤_, _<_}
 use mathlib.Core.Bool.{Bool}
 use mathlib.Core.List.{List, [], _∷_, _++_}
-use lib.ListN.{getD}
+use lib.ListN.{length, getD}
 use lib.Dec.{eqb}
 use Rattle.laws.specs.Table.{pick, among}
 use Rattle.book.specs.Format.{EXPRESSION, STATEMENT}
@@ -27,6 +27,15 @@ role b i r k = roleAt b (getD i r 0) k
 
 abbrev pub field : List ℕ → List ℕ → ℕ → ℕ → ℕ
 field b i r k = fieldAt b (getD i r 0) k
+
+-- record r begins in the book; its field k lies in it
+pub record Begins (b i : List ℕ) (r : ℕ) : Type 0 where
+  pub listed : r < length i
+  pub inside : getD i r 0 + 2 ≤ length b
+
+pub record Lies (b i : List ℕ) (r k : ℕ) : Type 0 where
+  pub listed : r < length i
+  pub inside : getD i r 0 + 2 + 2 * (k + 1) ≤ length b
 
 -- the kind of the record that field k of record r names, 0 where it names none
 abbrev pub named : List ℕ → List ℕ → ℕ → ℕ → ℕ

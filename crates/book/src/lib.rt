@@ -2,4 +2,5 @@
 pub mod fault;
 pub mod format;
 pub mod read;
+pub mod record;
 pub mod word;
