@@ -1,16 +1,15 @@
 -- READ's loop: what is left of the book answers for it all.
 -- Assumes nothing.
-use Prim.Native.Nat.{ℕ, zero, suc, _+_, _-_, _≤_, _<_}
-use mathlib.Core.Path.{_≡_, refl, sym, ap, _∙_}
-use mathlib.Core.Bool.{Bool, true, false}
+use Prim.Native.Nat.{ℕ, suc, _+_, _-_, _≤_, _<_}
+use mathlib.Core.Path.{_≡_, sym, ap, _∙_}
+use mathlib.Core.Bool.{true, false}
 use mathlib.Core.List.{List}
 use native.Mathlib.Omega.{arith}
-use borrow.Author.Tests.{lt-ltb, le-ltb}
 use lib.Dec.{T, ltb, ltb→lt}
-use lib.ListN.{length, replicate, length-replicate}
+use lib.ListN.{length, replicate}
 use Rattle.laws.specs.Table.{both, both-left, both-right}
 use Rattle.book.specs.Faults.{refusal}
-use Rattle.book.specs.Read.{State, state, Moved, on, stop, step, Outcome, done, refused, loose, records, start, sized, reading, answerOf, rowOfOutcome, readOf, indexOf}
+use Rattle.book.specs.Read.{State, state, on, stop, step, Outcome, done, refused, loose, records, start, sized, reading, answerOf, rowOfOutcome, readOf, indexOf}
 use Rattle.book.specs.Ready.{Ready, movedOf, outcomeOf}
 use Rattle.book.specs.declared.fault.Fault.{Fault}
 use Rattle.book.specs.declared.fault.Fault.the-variants.{Records, Size}
@@ -19,6 +18,7 @@ use Rattle.book.specs.declared.fault.ReadAnswer.{ReadAnswer}
 use Rattle.book.specs.declared.fault.ReadAnswer.the-variants as answers
 use Rattle.book.specs.declared.read.Next.{Next}
 use Rattle.book.specs.declared.read.Next.the-variants as nexts
+use Rattle.book.proofs.Course.{over, onward, halts, full}
 use Rattle.book.proofs.Moves.{moves}
 
 -- READ has come to record r at p with these rows, and what it will answer from here is o
@@ -30,28 +30,23 @@ pub record Going (b : List ℕ) (o : Outcome) (i nm ds : List ℕ) (p r : ℕ) :
 
 module _ (b : List ℕ) (s : State) (r : ℕ) where
   pub none-more : s .place < length b → r ≡ 4096 → refused (refusal Records 4096) ≡ records (4096 - r) b s
-  unfolding records
-  none-more h e = let q : 4096 - r ≡ 0 = omega arith in rw (q, records, lt-ltb (s .place) (length b) h)
+  none-more h e = let q : 4096 - r ≡ 0 = omega arith in rw q (sym (full b s h))
+
+  room : r < 4096 → 4096 - r ≡ suc (4096 - (r + 1))
+  room l = omega arith
 
   pub stopped : s .place < length b → r < 4096 → (f : Fault) → stop f ≡ step b s → refused (refusal f (s .number)) ≡ records (4096 - r) b s
-  unfolding records
-  stopped h l f e = let q : 4096 - r ≡ suc (4096 - (r + 1)) = omega arith in rw (q, records, lt-ltb (s .place) (length b) h, ← e)
+  stopped h l f e = rw (room l) (sym (halts b s _ f h (sym e)))
 
   pub gone-on : s .place < length b → r < 4096 → (t : State) → on t ≡ step b s → records (4096 - (r + 1)) b t ≡ records (4096 - r) b s
-  unfolding records
-  gone-on h l t e = let q : 4096 - r ≡ suc (4096 - (r + 1)) = omega arith in rw (q, records, lt-ltb (s .place) (length b) h, ← e)
+  gone-on h l t e = rw (room l) (sym (onward b s _ t h (sym e)))
 
   pub ended : length b ≤ s .place → loose b s 0 (s .number - 1) ≡ records (4096 - r) b s
-  unfolding records
-  ended h = by-room (4096 - r)
-    where
-      by-room : (m : ℕ) → loose b s 0 (s .number - 1) ≡ records m b s
-      by-room zero = rw (records, le-ltb (s .place) (length b) h)
-      by-room (suc m) = rw (records, le-ltb (s .place) (length b) h)
+  ended h = sym (over b s _ h)
 
 -- the code's answer on a record, beside the rows that it left
 module _ (b : List ℕ) (o : Outcome) (i nm ds : List ℕ) (p r : ℕ) (g : Going b o i nm ds p r) (h : p < length b) (l : r < 4096)
-  (v : Next) (i′ nm′ ds′ : List ℕ) (is : movedOf v r i′ nm′ ds′ ≡ step b (state p r i nm ds)) where
+    (v : Next) (i′ nm′ ds′ : List ℕ) (is : movedOf v r i′ nm′ ds′ ≡ step b (state p r i nm ds)) where
   pub going-bad : (f : Fault) → v ≡ nexts.Bad f → refused (refusal f r) ≡ o
   going-bad f e = stopped b (state p r i nm ds) r h l f (sym (ap (λ (u : Next). movedOf u r i′ nm′ ds′) e) ∙ is) ∙ g .left
 
@@ -96,9 +91,3 @@ module _ (b : List ℕ) (e : sized (length b) ≡ true) (v : ReadAnswer) (i : Li
 
   pub refusal-answers : (w : Refusal) → v ≡ answers.Refused w → Answers b (answers.Refused w) (replicate 4096 0)
   refusal-answers w q = whole (refused w) (ap (λ (u : ReadAnswer). outcomeOf u i) q)
-
--- the rows are ready for the first record
-pub ready-first : (b : List ℕ) → length b < 65536 → Ready b (replicate 4096 0) (replicate 4096 0) (replicate 4096 0) 0
-ready-first b h =
-    let l : length {A = ℕ} (replicate 4096 0) ≡ 4096 = length-replicate {A = ℕ} 4096 0 in
-    record { rows = record { size = h; few = omega arith; indexed = l; inside = λ j z. absurd (omega arith) }; noted = l; deep = l }

@@ -1,8 +1,20 @@
 mod Alikes
+pub mod Complete
+pub mod Course
+pub mod Depths
 mod Endings
+pub mod Established
+pub mod Extends
+pub mod Fields
 mod Frames
 mod Going
 pub mod Judging
 mod Layouts
+pub mod Loose
 pub mod Moves
+pub mod Names
+pub mod Picks
+pub mod Reached
+pub mod Tiles
+pub mod Types
 mod Ways

@@ -1,6 +1,7 @@
 -- `read::index_book` meets its contract: SIZE, then record by record.
 -- Assumes nothing.
-use Rattle.book.proofs.Going.{sized-is, ready-first, unsized-answers, records-answer, refusal-answers}
+use Rattle.book.proofs.Course.{ready-start}
+use Rattle.book.proofs.Going.{sized-is, unsized-answers, records-answer, refusal-answers}
 use Rattle.book.specs.Read.{sized}
 use borrow.Author.Needs.{needs}
 use borrow.Author.Tests.{not-true, not-false}
@@ -22,7 +23,7 @@ index-book-spec =
     (λ c κs.
     let e : sized (length (c .before .before .before .before .before .before .args .book .now)) ≡ true = sym (c .before .before .before .before .is-sized .ensures) ∙ not-false _ (c .before .before .before .if1 .left) in
     let w = sized-is _ e in
-    (ready-first _ (w .1), w .0))
+    (ready-start _ (w .1), w .0))
     (λ c. search needs)
     (λ c. search needs)
     (λ c.
