@@ -23,7 +23,7 @@ type-mark : (m : ℕ) → kindOf m ≡ TYPE → (1 ≤ m) × (m ≤ 3)
 unfolding kindOf within
 type-mark m e = elim (decLt m 38) [
   | yes h ↦ (let t : T (within 1 3 m) = rw (eq-eqb (kindOf m) TYPE e) at (all-below (λ k. pick (eqb (kindOf k) TYPE) (within 1 3 k) true) 38 tt m h) in
-    (leb→le 1 m (both-left (leb 1 m) (leb m 3) t), leb→le m 3 (both-right (leb 1 m) (leb m 3) t)))
+      (leb→le 1 m (both-left (leb 1 m) (leb m 3) t), leb→le m 3 (both-right (leb 1 m) (leb m 3) t)))
   | no g ↦ absurd (let z : _≡_ {A = ℕ} 0 1 = sym (ap (λ (r : Row). r .kind) (beyond m (omega arith))) ∙ e in omega arith)
 ]
 

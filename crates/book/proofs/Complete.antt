@@ -4,6 +4,7 @@ use Prim.Native.Nat.{ℕ, zero, suc, _+_, _-_, _≤_, _<_}
 use mathlib.Core.Bool.{true, false}
 use mathlib.Core.Path.{_≡_, refl, sym, _∙_}
 use mathlib.Core.List.{List}
+use mathlib.Core.Logic.{_↔_}
 use native.Mathlib.Omega.{arith}
 use native.Mathlib.Nat.{zero-add}
 use native.Mathlib.Numerals.{add-one}
@@ -16,17 +17,18 @@ use Rattle.book.specs.Format.{TYPE}
 use Rattle.book.specs.Read.{kindAt, totalAt, endAt, alike, repeats, State, on, step, done, isUnnamed, loose, records, start, sized, reading}
 use Rattle.book.specs.Ready.{Framed}
 use Rattle.book.specs.Index.{depth}
-use Rattle.book.specs.Valid.{Uses, Valid}
+use Rattle.book.specs.Valid.{Uses, Tiles, Valid}
 use Rattle.book.proofs.Picks.{not-true, both-false}
 use Rattle.book.proofs.Judging.{Fits}
 use Rattle.book.proofs.Moves.{verdict, after, step-can}
 use Rattle.book.proofs.Loose.{loosened}
 use Rattle.book.proofs.Course.{over, onward, zeros, length-start}
-use Rattle.book.proofs.Tiles.{Tiles}
+use Rattle.book.proofs.Established.{read-valid}
+use Rattle.book.proofs.Tiles.{read-tiles}
 use Rattle.book.proofs.Extends.{Extends, set-row, fits-sound}
 use Rattle.book.proofs.Names.{Names, Before, earlier, here, roll-start}
 use Rattle.book.proofs.Fields.{Tracks, tracks-fields, Good, fields-can}
-use Rattle.book.proofs.Types.{some-false}
+use Rattle.book.proofs.Unlike.{some-false}
 use Rattle.book.proofs.Depths.{depth-before, deep-new}
 
 -- READ has come to its record of that number in a book whose n records are at i, or to the book's end
@@ -177,3 +179,7 @@ unfolding reading sized
 valid-read b i n t v =
     let h = framed-lt b _ (v .rows .inside 0 (v .some)) in
     rw (lt-ltb 0 (length b) (omega arith), lt-ltb (length b) 65536 (v .rows .size), reading, sized) (comes b i n t v 4096 start refl (omega arith) (begun b i n t v))
+
+-- READ accepts exactly the books whose records lie end to end and are valid
+pub accepts-exactly : (b i : List ℕ) (n : ℕ) → reading b ≡ done n i ↔ (Tiles b i n × Valid b i n)
+accepts-exactly b i n = ((λ e. (read-tiles b i n e, read-valid b i n e)), (λ w. valid-read b i n (w .0) (w .1)))

@@ -22,7 +22,7 @@ use Rattle.book.proofs.Extends.{Extends, extends, set-row, sound-before
 use Rattle.book.proofs.Names.{Roll, earlier, before-first, roll-start, roll-extends}
 use Rattle.book.proofs.Fields.{tracks-fields}
 use Rattle.book.proofs.Depths.{depth-before, deep-new}
-use Rattle.book.proofs.Types.{Unlike, unlike-next, unlike-all}
+use Rattle.book.proofs.Unlike.{Unlike, unlike-next, unlike-all}
 
 -- what holds of the first n records
 record Holds (b i nm ds : List ℕ) (n : ℕ) : Type 0 where

@@ -37,8 +37,8 @@ pub small-of : (m : ℕ) → Small (layoutOf m)
 unfolding layoutOf
 small-of m = elim (decLt m 38) [
   | yes h ↦ record {
-    heads = leb→le (length (rowOf m .head)) 6 (all-below (λ k. leb (length (rowOf k .head)) 6) 38 tt m h)
-    ; eachs = leb→le (length (rowOf m .each)) 2 (all-below (λ k. leb (length (rowOf k .each)) 2) 38 tt m h)
+    heads = leb→le (length (rowOf m .head)) 6 (all-below (λ k. leb (length (rowOf k .head)) 6) 38 tt m h);
+    eachs = leb→le (length (rowOf m .each)) 2 (all-below (λ k. leb (length (rowOf k .each)) 2) 38 tt m h);
   }
   | no g ↦ rw (beyond m (omega arith)) (record { heads = omega arith; eachs = omega arith })
 ]

@@ -1,4 +1,5 @@
 mod Alikes
+pub mod Built
 pub mod Complete
 pub mod Course
 pub mod Depths
@@ -9,12 +10,15 @@ pub mod Fields
 mod Frames
 mod Going
 pub mod Judging
+mod Kept
 mod Layouts
 pub mod Loose
 pub mod Moves
 pub mod Names
 pub mod Picks
 pub mod Reached
+pub mod Roles
 pub mod Tiles
 pub mod Types
+pub mod Unlike
 mod Ways

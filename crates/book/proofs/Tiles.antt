@@ -8,18 +8,12 @@ use native.Mathlib.Numerals.{add-one}
 use lib.ListN.{length, getD, set}
 use lib.Seq.{getD-set-other}
 use Rattle.book.specs.Read.{endAt, State, on, step, done, reading}
+use Rattle.book.specs.Valid.{Tiles}
 use Rattle.book.proofs.Judging.{up-to}
 use Rattle.book.proofs.Moves.{takes}
 use Rattle.book.proofs.Course.{Kept, zeros}
 use Rattle.book.proofs.Reached.{reading-reached}
 use Rattle.book.proofs.Extends.{Extends, extends}
-
--- n records lie end to end from the first byte to the last, at the places i
-pub record Tiles (b i : List ℕ) (n : ℕ) : Type 0 where
-  pub begins : getD i 0 0 ≡ 0
-  pub joins : (r : ℕ) → suc r < n → getD i (suc r) 0 ≡ endAt b (getD i r 0)
-  pub ends : endAt b (getD i (n - 1) 0) ≡ length b
-  pub beyond : (r : ℕ) → n ≤ r → getD i r 0 ≡ 0
 
 -- where the records before r end
 abbrev until : List ℕ → List ℕ → ℕ → ℕ

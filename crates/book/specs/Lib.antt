@@ -4,3 +4,5 @@ pub mod Read
 pub mod Index
 pub mod Ready
 pub mod Valid
+pub mod Tree
+pub mod Listing

@@ -5,61 +5,111 @@ ghost use Rattle.book.specs.Format.{markOf, kindOf, laid, layoutOf, role
 
 // Marks, numbered from 1 in the order of document 01's table.
 pub const TU: u8 = 1;
+
 pub const TS: u8 = 2;
+
 pub const TP: u8 = 3;
+
 pub const VU: u8 = 4;
+
 pub const VL: u8 = 5;
+
 pub const VR: u8 = 6;
+
 pub const VP: u8 = 7;
+
 pub const PI: u8 = 8;
+
 pub const PN: u8 = 9;
+
 pub const PT: u8 = 10;
+
 pub const EC: u8 = 11;
+
 pub const EW: u8 = 12;
+
 pub const EV: u8 = 13;
+
 pub const ET: u8 = 14;
+
 pub const EL: u8 = 15;
+
 pub const E0: u8 = 16;
+
 pub const E1: u8 = 17;
+
 pub const EN: u8 = 18;
+
 pub const EB: u8 = 19;
+
 pub const SA: u8 = 20;
+
 pub const SE: u8 = 21;
+
 pub const EM: u8 = 22;
+
 pub const EH: u8 = 23;
+
 pub const CJ: u8 = 24;
+
 pub const CL: u8 = 25;
+
 pub const CR: u8 = 26;
+
 pub const CD: u8 = 27;
+
 pub const CA: u8 = 28;
+
 pub const CP: u8 = 29;
+
 pub const CN: u8 = 30;
+
 pub const CK: u8 = 31;
+
 pub const CF: u8 = 32;
+
 pub const CQ: u8 = 33;
+
 pub const CY: u8 = 34;
+
 pub const CW: u8 = 35;
+
 pub const CH: u8 = 36;
+
 pub const FN: u8 = 37;
 
 // Kinds of records. A field with one of these roles names a record of that kind.
 pub const TYPE: u8 = 1;
+
 pub const VALUE: u8 = 2;
+
 pub const PATTERN: u8 = 3;
+
 pub const EXPRESSION: u8 = 4;
+
 pub const STATEMENT: u8 = 5;
+
 pub const FUNCTION: u8 = 6;
 
 // The other roles of a field, each with its range; END is an expression or 65535 for none.
 pub const NAME: u8 = 7;
+
 pub const COUNT: u8 = 8;
+
 pub const SOME: u8 = 9;
+
 pub const VARIANTS: u8 = 10;
+
 pub const BOUND: u8 = 11;
+
 pub const UNDER: u8 = 12;
+
 pub const JET: u8 = 13;
+
 pub const WIDTH: u8 = 14;
+
 pub const BITS: u8 = 15;
+
 pub const END: u8 = 16;
 
 // A mark's number by its two letters, 0 where there is no such mark.
@@ -162,20 +212,56 @@ pub fn layout_of(mark: u8) -> Layout
         ET => lay(2, [TYPE, COUNT, 0, 0, 0, 0], 1, [EXPRESSION, 0], 0),
         EL => lay(3, [TYPE, BOUND, UNDER, 0, 0, 0], 1, [EXPRESSION, 0], 0),
         E0..=E1 => lay(2, [TYPE, EXPRESSION, 0, 0, 0, 0], 0, [0, 0], 0),
-        EN => lay(4, [TYPE, NAME, VARIANTS, COUNT, 0, 0], 1, [EXPRESSION, 0], 0),
+        EN => lay(
+            4,
+            [TYPE, NAME, VARIANTS, COUNT, 0, 0],
+            1,
+            [EXPRESSION, 0],
+            0,
+        ),
         EB => lay(2, [TYPE, COUNT, 0, 0, 0, 0], 1, [STATEMENT, 0], END),
         SA => lay(2, [PATTERN, EXPRESSION, 0, 0, 0, 0], 0, [0, 0], 0),
         SE => lay(1, [EXPRESSION, 0, 0, 0, 0, 0], 0, [0, 0], 0),
-        EM => lay(6, [TYPE, EXPRESSION, PATTERN, EXPRESSION, PATTERN, EXPRESSION], 0, [0, 0], 0),
-        EH => lay(3, [TYPE, EXPRESSION, SOME, 0, 0, 0], 2, [PATTERN, EXPRESSION], 0),
+        EM => lay(
+            6,
+            [TYPE, EXPRESSION, PATTERN, EXPRESSION, PATTERN, EXPRESSION],
+            0,
+            [0, 0],
+            0,
+        ),
+        EH => lay(
+            3,
+            [TYPE, EXPRESSION, SOME, 0, 0, 0],
+            2,
+            [PATTERN, EXPRESSION],
+            0,
+        ),
         CJ => lay(4, [TYPE, NAME, JET, COUNT, 0, 0], 1, [EXPRESSION, 0], 0),
         CL..=CA => lay(3, [TYPE, NAME, EXPRESSION, 0, 0, 0], 0, [0, 0], 0),
         CP => lay(2, [TYPE, NAME, 0, 0, 0, 0], 0, [0, 0], 0),
         CN..=CK => lay(2, [TYPE, EXPRESSION, 0, 0, 0, 0], 0, [0, 0], 0),
         CF => lay(3, [TYPE, FUNCTION, COUNT, 0, 0, 0], 1, [EXPRESSION, 0], 0),
-        CQ => lay(5, [TYPE, FUNCTION, BOUND, EXPRESSION, EXPRESSION, 0], 0, [0, 0], 0),
-        CY => lay(5, [TYPE, FUNCTION, SOME, EXPRESSION, EXPRESSION, 0], 0, [0, 0], 0),
-        CW => lay(5, [TYPE, FUNCTION, WIDTH, EXPRESSION, EXPRESSION, 0], 0, [0, 0], 0),
+        CQ => lay(
+            5,
+            [TYPE, FUNCTION, BOUND, EXPRESSION, EXPRESSION, 0],
+            0,
+            [0, 0],
+            0,
+        ),
+        CY => lay(
+            5,
+            [TYPE, FUNCTION, SOME, EXPRESSION, EXPRESSION, 0],
+            0,
+            [0, 0],
+            0,
+        ),
+        CW => lay(
+            5,
+            [TYPE, FUNCTION, WIDTH, EXPRESSION, EXPRESSION, 0],
+            0,
+            [0, 0],
+            0,
+        ),
         CH => lay(3, [TYPE, NAME, COUNT, 0, 0, 0], 2, [BITS, EXPRESSION], 0),
         FN => lay(2, [TYPE, COUNT, 0, 0, 0, 0], 2, [NAME, TYPE], EXPRESSION),
         _ => lay(0, [0, 0, 0, 0, 0, 0], 0, [0, 0], 0),

@@ -6,10 +6,22 @@ ghost use lib.ListN.{length};
 ghost use Rattle.book.specs.Format.{TYPE, kindOf};
 ghost use Rattle.book.specs.Read.{markAt, kindAt, countIn, countAt, totalAt, endAt, roleAt, names, deeper, once, refer, judge, fields, alike, repeats, state, settle, step, isUnnamed, loose, records, sized, readOf, indexOf, good};
 ghost use Rattle.book.specs.Ready.{Framed, Opens, Rows, Ready, frameFrom, frameOf, verdictOf, movedOf, outcomeOf};
-
-use crate::fault::{Fault, ReadAnswer, Refusal};
-use crate::format::{in_range, kind_of, layout_of, mark_of, role_of, total_of, Layout};
-use crate::format::{END, EXPRESSION, FUNCTION, STATEMENT, TU, TYPE};
+use crate::fault::Fault;
+use crate::fault::ReadAnswer;
+use crate::fault::Refusal;
+use crate::format::END;
+use crate::format::EXPRESSION;
+use crate::format::FUNCTION;
+use crate::format::Layout;
+use crate::format::STATEMENT;
+use crate::format::TU;
+use crate::format::TYPE;
+use crate::format::in_range;
+use crate::format::kind_of;
+use crate::format::layout_of;
+use crate::format::mark_of;
+use crate::format::role_of;
+use crate::format::total_of;
 use crate::word::word;
 
 // A record's mark, how often its group stands, and where it ends; or why there is none.

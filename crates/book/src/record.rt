@@ -1,7 +1,6 @@
 // A record by its number: its mark, and its fields.
 ghost use mathlib.Core.Path.{_≡_};
 ghost use Rattle.book.specs.Index.{mark, field, Begins, Lies};
-
 use crate::format::mark_of;
 use crate::word::word;
 

@@ -1,6 +1,7 @@
 // What the programs print: a count, or a refusal.
+use book::fault::Refusal;
+use book::fault::fault_number;
 use libc::STDOUT_FILENO;
-use book::fault::{fault_number, Refusal};
 
 // A word and a number, on a line of their own.
 pub fn print_count(word: &[u8], n: u64) {

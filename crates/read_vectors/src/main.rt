@@ -1,7 +1,8 @@
 // Runs READ on a stream of vectors, and prints how many there were and which answers were wrong.
 // A vector: the expected number (one byte), place and count (two bytes each, low first), the book's
 // length (three bytes, low first), and the book.
-use book::fault::{fault_number, ReadAnswer};
+use book::fault::ReadAnswer;
+use book::fault::fault_number;
 use libc::STDIN_FILENO;
 
 // A number, place and count.

@@ -32,8 +32,7 @@ is-repeated-spec =
     (λ c. let w = c .before .before .before .before .before .before .before .pre .0 in omega (arith, w .few, w .indexed))
     (λ c. omega (arith, c .shared-slice-known3 .given (c .before .before .loop .j - 1)))
     (λ c κs.
-    let s = c .before .before .before .before .before .before .before in
-    (
+    let s = c .before .before .before .before .before .before .before in (
       s .pre .1 .0,
       (
         s .pre .0 .inside (c .before .before .loop .j - 1) (omega arith),

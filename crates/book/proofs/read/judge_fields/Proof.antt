@@ -52,8 +52,7 @@ judge-fields-spec =
     let w : Small l = rw (c .before .before .before .before .before .layout-of .ensures) (small-of (s .args .mark)) in
     let is : l ≡ layoutAt b p = c .before .before .before .before .before .layout-of .ensures ∙ ap layoutOf (s .pre .1 .mark) in
     let t : c .before .before .before .before .total-of .result ≡ totalAt b p = total-at b p l (s .args .count) _ is (s .pre .1 .count) (c .before .before .before .before .total-of .ensures) in
-    let v = c .before .before .before .loop .inv in
-    (
+    let v = c .before .before .before .loop .inv in (
       record { rows = s .pre .0 .rows; noted = v .2 ∙ s .pre .0 .noted; deep = s .pre .0 .deep },
       (
         omega (arith, field-within b p (c .before .before .before .loop .k) (rw t at (c .before .before .loop-test .taken)), s .pre .1 .framed .ends),

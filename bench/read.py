@@ -1,0 +1,83 @@
+#!/usr/bin/env python3
+"""Times READ on the books that are dearest for it, through the program readbook, started afresh each time.
+
+The search for an alike type is the one part of READ that isn't linear: a book of 4,096 types is its worst.
+Prints, for each book, its size, READ's answer and the best and median of the times less the time of the
+smallest book, which is what starting a program costs. On Arm the program runs under an emulator, and the
+times say nothing.
+"""
+import os
+import statistics
+import struct
+import subprocess
+import sys
+import time
+
+ROOT = os.path.dirname(os.path.dirname(os.path.abspath(__file__)))
+RUNS = 40
+
+
+def record(mark, *fields):
+    return mark.encode() + b"".join(struct.pack("<H", x) for x in fields)
+
+
+def types():
+    """Types that are pairwise unlike and shallow, without end."""
+    yield record("tu")
+    at = 1
+    for high in range(at, 65536):
+        for low in range(high):
+            for mark in ("ts", "tp"):
+                yield record(mark, low, high - 1)
+                at += 1
+
+
+def book_of_types(size):
+    book = b""
+    for each in types():
+        book += each
+        if size <= len(book):
+            return book[:size]
+
+
+def books():
+    smallest = record("tu") + record("et", 0, 0)
+    yield "two records", smallest
+    yield "types alone, 65,535 bytes", book_of_types(65535)
+    yield "4,096 types", book_of_types(2 + 6 * 4095)
+    yield "4,096 records, no type but one", record("tu") + record("pn") * 4094 + record("et", 0, 0)
+    yield "a tuple of 256, 127 times over", wide_tuples()
+
+
+def wide_tuples():
+    """A book as long as may be whose records are few and wide."""
+    book, count = record("tu"), 1
+    while len(book) + 518 < 65000:
+        book += record("pn") * 2
+        count += 2
+        book += record("pt", 256, *[count - 1] * 256)
+        count += 1
+    return book + record("et", 0, 0)
+
+
+def times(book):
+    taken = []
+    for _ in range(RUNS):
+        start = time.perf_counter()
+        done = subprocess.run([os.path.join(ROOT, "run"), "readbook"], input=book, stdout=subprocess.PIPE, check=True)
+        taken.append(1000 * (time.perf_counter() - start))
+    return done.stdout.decode().strip(), min(taken), statistics.median(taken)
+
+
+def main():
+    base_best, base_median = None, None
+    for name, book in books():
+        answer, best, median = times(book)
+        if base_best is None:
+            base_best, base_median = best, median
+        print(f"{name}: {len(book)} bytes, {answer}: best {best - base_best:.1f} ms, median {median - base_median:.1f} ms")
+    return 0
+
+
+if __name__ == "__main__":
+    sys.exit(main())

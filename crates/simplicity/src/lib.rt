@@ -1,0 +1,1 @@
+// Simplicity's types and values, as its public definition gives them. No function.
