@@ -10,7 +10,7 @@ document 01, "Refusals by number", and the model of tests/read_model.py must
 agree.  The damaged ones are copies of examples/ whole, cut short, or with one
 byte changed; there the model alone says what they must give.
 
-The stored file holds for each vector: number (1 byte), place (2), count (2),
+The file crates/read_vectors/stdin holds for each vector: number (1 byte), place (2), count (2),
 length of the book (3), the book; low byte first.
 """
 
@@ -38,7 +38,9 @@ from read_model import (
     read,
 )
 
-STORED = os.path.join(ROOT, "crates", "read_vectors", "data", "vectors")
+# What the program read_vectors is run on, and what it must print.
+INPUT = os.path.join(ROOT, "crates", "read_vectors", "stdin")
+OUTPUT = os.path.join(ROOT, "crates", "read_vectors", "stdout")
 EXAMPLES = os.path.join(ROOT, "examples")
 
 LEAST_HAND_VECTORS = 120
@@ -718,16 +720,21 @@ def complaints(hand, vectors):
         yield f"{len(packed(vectors))} bytes are too many to store"
 
 
-def stored():
-    if not os.path.exists(STORED):
+def files(vectors):
+    """The stored files with what each must hold."""
+    yield INPUT, packed(vectors)
+    yield OUTPUT, b"vectors %d\nwrong 0\n" % len(vectors)
+
+
+def stored(path):
+    if not os.path.exists(path):
         return b""
-    with open(STORED, "rb") as stream:
+    with open(path, "rb") as stream:
         return stream.read()
 
 
-def write(data):
-    os.makedirs(os.path.dirname(STORED), exist_ok=True)
-    with open(STORED, "wb") as stream:
+def write(path, data):
+    with open(path, "wb") as stream:
         stream.write(data)
 
 
@@ -739,17 +746,17 @@ def main():
     hand, damaged = hand_vectors(), damaged_vectors()
     vectors = hand + damaged
     wrong = list(complaints(hand, vectors))
-    data = packed(vectors)
     if chosen.list:
         for number, (what, answer, _) in enumerate(vectors):
             print(number, *answer, what)
-    if chosen.write and not wrong:
-        write(data)
-    if stored() != data:
-        wrong.append("the stored vectors differ: run with --write")
+    for path, data in files(vectors):
+        if chosen.write and not wrong:
+            write(path, data)
+        if stored(path) != data:
+            wrong.append(f"{os.path.relpath(path, ROOT)} differs: run with --write")
     for line in wrong:
         print(line, file=sys.stderr)
-    print(f"read vectors: {len(hand)} by hand, {len(damaged)} damaged, {len(data)} bytes")
+    print(f"read vectors: {len(hand)} by hand, {len(damaged)} damaged")
     return 1 if wrong else 0
 
 
