@@ -11,7 +11,8 @@ use borrow.Author.Tests.{eq-eqb, ne-eqb}
 use lib.Dec.{T, eqb, leb, leb→le}
 use lib.ListN.{getD}
 use Rattle.laws.specs.Table.{pick, both, some, arm, all-below, both-left, both-right}
-use Rattle.book.specs.Format.{wordAt, kindOf, layoutOf, totalOf, rowOf, Row, beyond, within, TYPE, TU}
+use Rattle.book.specs.Format.{wordAt, kindOf, layoutOf, totalOf, rowOf, Row, within, TYPE, TU}
+use Rattle.book.proofs.Layouts.{beyond}
 use Rattle.book.specs.Read.{markAt, kindAt, fieldAt, countIn, countAt, totalAt, alike, repeats}
 
 both-true : (x : Bool) → both x true ≡ x

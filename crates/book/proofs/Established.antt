@@ -8,7 +8,7 @@ use native.Mathlib.Omega.{arith}
 use native.Mathlib.Nat.{zero-add}
 use lib.ListN.{getD, set}
 use Rattle.laws.specs.Table.{true-false}
-use Rattle.book.specs.Read.{kindAt, totalAt, fields, good, repeats, State, on, step, Outcome, done, refused, isUnnamed, start, reading, answerOf, rowOfOutcome, readOf, indexOf}
+use Rattle.book.specs.Read.{kindAt, totalAt, fields, good, repeats, State, on, step, Outcome, done, refused, isUnnamed, start, reading, answerOf, placesOf, readOf, indexOf}
 use Rattle.book.specs.Ready.{Ready, Rows}
 use Rattle.book.specs.Index.{single, depth}
 use Rattle.book.specs.Valid.{Sound, Used, Valid}
@@ -101,6 +101,6 @@ pub answer-valid : (b : List ℕ) (n : ℕ) → readOf b ≡ answers.Records n �
 unfolding readOf indexOf
 answer-valid b n = go (reading b) refl
   where
-    go : (o : Outcome) → reading b ≡ o → answerOf o ≡ answers.Records n → Valid b (rowOfOutcome o) n
+    go : (o : Outcome) → reading b ≡ o → answerOf o ≡ answers.Records n → Valid b (placesOf o) n
     go (done m i) e q = let z : m ≡ n = cc in rw z at (read-valid b i m e)
     go (refused w) e q = absurd (let z : _≡_ {A = ℕ} 0 1 = cc in omega arith)

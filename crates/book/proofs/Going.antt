@@ -9,7 +9,7 @@ use lib.Dec.{T, ltb, ltb→lt}
 use lib.ListN.{length, replicate}
 use Rattle.laws.specs.Table.{both, both-left, both-right}
 use Rattle.book.specs.Faults.{refusal}
-use Rattle.book.specs.Read.{State, state, on, stop, step, Outcome, done, refused, loose, records, start, sized, reading, answerOf, rowOfOutcome, readOf, indexOf}
+use Rattle.book.specs.Read.{State, state, on, stop, step, Outcome, done, refused, loose, records, start, sized, reading, answerOf, placesOf, readOf, indexOf}
 use Rattle.book.specs.Ready.{Ready, movedOf, outcomeOf}
 use Rattle.book.specs.declared.fault.Fault.{Fault}
 use Rattle.book.specs.declared.fault.Fault.the-variants.{Records, Size}
@@ -73,16 +73,16 @@ sized-is n e =
 abbrev Answers : List ℕ → ReadAnswer → List ℕ → Type 0
 Answers b v i = (v ≡ readOf b) × (i ≡ indexOf b)
 
-outcome-answers : (b : List ℕ) (o : Outcome) → reading b ≡ o → Answers b (answerOf o) (rowOfOutcome o)
+outcome-answers : (b : List ℕ) (o : Outcome) → reading b ≡ o → Answers b (answerOf o) (placesOf o)
 unfolding readOf indexOf
-outcome-answers b o e = (ap answerOf (sym e), ap rowOfOutcome (sym e))
+outcome-answers b o e = (ap answerOf (sym e), ap placesOf (sym e))
 
 pub unsized-answers : (b : List ℕ) → sized (length b) ≡ false → Answers b (answers.Refused (refusal Size 0)) (replicate 4096 0)
 unfolding reading
 unsized-answers b e = outcome-answers b (refused (refusal Size 0)) (rw (reading, e))
 
 module _ (b : List ℕ) (e : sized (length b) ≡ true) (v : ReadAnswer) (i : List ℕ) (is : outcomeOf v i ≡ records 4096 b start) where
-  whole : (o : Outcome) → outcomeOf v i ≡ o → Answers b (answerOf o) (rowOfOutcome o)
+  whole : (o : Outcome) → outcomeOf v i ≡ o → Answers b (answerOf o) (placesOf o)
   unfolding reading
   whole o q = outcome-answers b o (rw (reading, e) (sym is ∙ q))
 

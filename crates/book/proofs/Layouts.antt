@@ -8,11 +8,15 @@ use mathlib.Core.Bool.{true, false}
 use mathlib.Core.List.{[], _∷_}
 use native.Mathlib.Decide.{decLt}
 use lib.Dec.{leb, leb→le}
-use lib.ListN.{length}
+use lib.ListN.{length, List·getD-eq-default}
 use borrow.Author.Tests.{ne-eqb}
 use Rattle.laws.specs.Table.{among, arm, all-below}
-use Rattle.book.specs.Format.{EXPRESSION, STATEMENT, Small, layoutOf, rowOf, beyond}
+use Rattle.book.specs.Format.{EXPRESSION, STATEMENT, Small, layoutOf, rowOf, row, marks}
 use native.Mathlib.Omega.{arith}
+
+-- past the last mark there is none
+pub beyond : (m : ℕ) → 38 ≤ m → rowOf m ≡ row 0 0 0 [] [] 0
+beyond m h = List·getD-eq-default (row 0 0 0 [] [] 0 ∷ marks) (row 0 0 0 [] [] 0) h
 
 -- a group of at most two fields that stands fewer than 65,536 times
 pub groups-fit : (n e : ℕ) → n < 65536 → e ≤ 2 → n * e ≤ 131070

@@ -11,7 +11,8 @@ use lib.Dec.{T, eqb, ltb, leb, ltb→lt, leb→le, lit<}
 use lib.ListN.{length, getD}
 use Rattle.laws.specs.Order.{by-lt}
 use Rattle.laws.specs.Table.{pick, both, below, both-left, both-right, all-below}
-use Rattle.book.specs.Format.{wordAt, kindOf, Row, rowOf, layoutRow, layoutOf, roleOf, totalOf, inRange, beyond, EXPRESSION, FUNCTION, END}
+use Rattle.book.specs.Format.{wordAt, kindOf, Row, rowOf, layoutRow, layoutOf, roleOf, totalOf, inRange, EXPRESSION, FUNCTION, END}
+use Rattle.book.proofs.Layouts.{beyond}
 use Rattle.book.specs.Read.{countIn, countAt, totalAt, endAt, roleAt, fieldAt, names}
 use Rattle.book.specs.Index.{mark, kind, count, total, role, field, named}
 use Rattle.book.specs.Valid.{Valid}

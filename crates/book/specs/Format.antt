@@ -3,8 +3,7 @@
 use Prim.Native.Nat.{ℕ, zero, suc, _+_, _*_, _-_, _%_, _≤_}
 use mathlib.Core.Bool.{Bool, true, false}
 use mathlib.Core.List.{List, [], _∷_, _++_}
-use lib.ListN.{length, getD, take, replicate, List·getD-eq-default}
-use mathlib.Core.Path.{_≡_}
+use lib.ListN.{length, getD, take, replicate}
 use lib.Dec.{eqb, leb, ltb}
 use Rattle.laws.specs.Table.{pick, both, Case, at, choose, among}
 use Rattle.book.specs.declared.format.Layout.{Layout}
@@ -63,7 +62,7 @@ BITS = 15
 abbrev pub END : ℕ
 END = 16
 
--- a row of document 01's table: a mark's two letters, its records' kind, the roles of its first fields, of the group that stands as often as the last of them says, and of its last field (0: none)
+-- a row of document 01's table, The book: a mark's two letters (their ASCII codes), its records' kind, the roles of its first fields, of the group that stands as often as the last of them says, and of its last field (0: none)
 pub record Row : Type 0 where
   pub letters : ℕ
   pub kind : ℕ
@@ -307,7 +306,3 @@ ranges p x =
 
 unfoldable pub inRange : ℕ → ℕ → ℕ → Bool
 inRange r p x = choose (ranges p x) r true
-
--- past the last mark there is none
-pub beyond : (m : ℕ) → 38 ≤ m → rowOf m ≡ row 0 0 0 [] [] 0
-beyond m h = List·getD-eq-default (row 0 0 0 [] [] 0 ∷ marks) (row 0 0 0 [] [] 0) h

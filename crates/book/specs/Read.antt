@@ -163,12 +163,12 @@ abbrev pub answerOf : Outcome → ReadAnswer
 answerOf (done n i) = answers.Records n
 answerOf (refused w) = answers.Refused w
 
-abbrev pub rowOfOutcome : Outcome → List ℕ
-rowOfOutcome (done n i) = i
-rowOfOutcome (refused w) = replicate 4096 0
+abbrev pub placesOf : Outcome → List ℕ
+placesOf (done n i) = i
+placesOf (refused w) = replicate 4096 0
 
 unfoldable pub readOf : List ℕ → ReadAnswer
 readOf b = answerOf (reading b)
 
 unfoldable pub indexOf : List ℕ → List ℕ
-indexOf b = rowOfOutcome (reading b)
+indexOf b = placesOf (reading b)

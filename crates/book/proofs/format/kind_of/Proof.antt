@@ -3,7 +3,8 @@
 use native.Mathlib.Omega.{arith}
 use mathlib.Core.Path.{_≡_, sym, ap}
 use Rattle.laws.specs.Table.{run}
-use Rattle.book.specs.Format.{kindOf, beyond, Row}
+use Rattle.book.specs.Format.{kindOf, Row}
+use Rattle.book.proofs.Layouts.{beyond}
 use Rattle.book.proofs.format.kind_of.Statement.{statement}
 use Rattle.book.proofs.format.kind_of.Tie as tie
 

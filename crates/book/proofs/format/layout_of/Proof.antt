@@ -9,7 +9,8 @@ use mathlib.Core.Path.{_≡_, refl, sym, ap, _∙_}
 use mathlib.Core.List.{List, [], _∷_}
 use mathlib.Core.Logic.{inl, inr, ⊎-elim}
 use Rattle.laws.specs.Table.{arm, free, among}
-use Rattle.book.specs.Format.{layoutOf, layoutRow, beyond}
+use Rattle.book.specs.Format.{layoutOf, layoutRow}
+use Rattle.book.proofs.Layouts.{beyond}
 use Rattle.book.proofs.format.layout_of.Statement.{statement}
 use Rattle.book.proofs.format.layout_of.Tie as tie
 
