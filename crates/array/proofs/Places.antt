@@ -5,7 +5,8 @@ use Prim.Native.Nat.{ℕ, suc, _+_, _-_, _*_, _%_, _^_, _<_, _≤_}
 use native.Mathlib.Omega.{arith}
 use lib.Count.{leadingZeros, leading-top}
 use lib.Pow.{shl-exact}
-use Rattle.array.specs.Split.{splitOf, split-is, topOf, top-is}
+use Rattle.array.specs.Split.{splitOf, topOf}
+use Rattle.array.proofs.Splits.{split-is, top-is}
 
 -- the leading zeros and the top one bit's place make 31
 pub top-zeros : (n : ℕ) → 0 < n → n < 2 ^ 32 → leadingZeros 32 n + suc (topOf n) ≡ 32

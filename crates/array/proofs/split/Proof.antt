@@ -1,6 +1,8 @@
+-- `split` meets its contract: the shift by the leading zeros is the right part.
+-- Assumes nothing.
 use borrow.Author.Needs.{needs}
 use native.Mathlib.Omega.{arith}
-use Rattle.array.specs.Split.{split-of}
+use Rattle.array.proofs.Splits.{split-of}
 use Rattle.array.proofs.Places.{half-rest}
 use Rattle.array.proofs.split.Statement.{statement}
 use Rattle.array.proofs.split.Tie as tie

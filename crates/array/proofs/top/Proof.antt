@@ -1,3 +1,5 @@
+-- `top` meets its contract: the leading zeros tell the place.
+-- Assumes nothing.
 use native.Mathlib.Omega.{arith}
 use Rattle.array.proofs.Places.{top-zeros}
 use Rattle.array.proofs.top.Statement.{statement}

@@ -1,9 +1,12 @@
+-- `add_jet` meets its contract: the leading zeros tell the number, computed at each hash width.
+-- Assumes nothing.
 use mathlib.Core.Path.{_≡_}
 use native.Mathlib.Omega.{arith}
 use Prim.Native.Nat.{ℕ, _-_, _<_}
 use lib.Count.{leadingZeros, leading-le}
 use lib.Dec.{eqb, eqb→eq}
-use Rattle.jet.specs.Jets.{addOf, adder, adds-of}
+use Rattle.jet.specs.Jets.{addOf}
+use Rattle.jet.proofs.Adders.{adder, adds-of}
 use Rattle.jet.proofs.add_jet.Statement.{statement}
 use Rattle.jet.proofs.add_jet.Tie as tie
 
