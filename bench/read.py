@@ -2,8 +2,8 @@
 """Times READ on the books that are dearest for it, through the program readbook, started afresh each time.
 
 The search for an alike type is the one part of READ that isn't linear: a book of 4,096 types is its worst.
-Prints, for each book, its size, READ's answer and the best and median of the times less the time of the
-smallest book, which is what starting a program costs. On Arm the program runs under an emulator, and the
+Prints a row of docs/PERFORMANCE.md for each book: its bytes, READ's answer, and the best and the median time in
+milliseconds, less that of the smallest book, which is what starting a program costs. On Arm the program runs under an emulator, and the
 times say nothing.
 """
 import os
@@ -46,10 +46,10 @@ def books():
     yield "types alone, 65,535 bytes", book_of_types(65535)
     yield "4,096 types", book_of_types(2 + 6 * 4095)
     yield "4,096 records, no type but one", record("tu") + record("pn") * 4094 + record("et", 0, 0)
-    yield "a tuple of 256, 127 times over", wide_tuples()
+    yield "patterns of 256 each", wide_patterns()
 
 
-def wide_tuples():
+def wide_patterns():
     """A book as long as may be whose records are few and wide."""
     book, count = record("tu"), 1
     while len(book) + 518 < 65000:
@@ -60,22 +60,26 @@ def wide_tuples():
     return book + record("et", 0, 0)
 
 
-def times(book):
-    taken = []
-    for _ in range(RUNS):
-        start = time.perf_counter()
-        done = subprocess.run([os.path.join(ROOT, "run"), "readbook"], input=book, stdout=subprocess.PIPE, check=True)
-        taken.append(1000 * (time.perf_counter() - start))
-    return done.stdout.decode().strip(), min(taken), statistics.median(taken)
+def time_once(book):
+    start = time.perf_counter()
+    done = subprocess.run([os.path.join(ROOT, "run"), "readbook"], input=book, stdout=subprocess.PIPE, check=True)
+    return 1000 * (time.perf_counter() - start), done.stdout.decode().strip()
 
 
 def main():
-    base_best, base_median = None, None
-    for name, book in books():
-        answer, best, median = times(book)
-        if base_best is None:
-            base_best, base_median = best, median
-        print(f"{name}: {len(book)} bytes, {answer}: best {best - base_best:.1f} ms, median {median - base_median:.1f} ms")
+    chosen = list(books())
+    taken = {name: [] for name, _ in chosen}
+    # In turn, so that what else the machine does falls on all alike.
+    for _ in range(RUNS):
+        for name, book in chosen:
+            ms, answer = time_once(book)
+            taken[name].append((ms, answer))
+    base = min(ms for ms, _ in taken[chosen[0][0]])
+    middle = statistics.median(ms for ms, _ in taken[chosen[0][0]])
+    for name, book in chosen:
+        best = min(ms for ms, _ in taken[name]) - base
+        median = statistics.median(ms for ms, _ in taken[name]) - middle
+        print(f"| {name} | {len(book)} | {taken[name][0][1]} | {best:.1f} | {median:.1f} |")
     return 0
 
 
