@@ -2,7 +2,8 @@
 ghost use mathlib.Core.Path.{_≡_};
 ghost use Rattle.book.specs.Faults.{faultNumber};
 
-// What was wrong: document 01, Refusals by number, in its order.
+// What was wrong: document 01, Refusals by number, in its order. TYPE is `Ty`, since `Type` is a word of
+// the language of the proofs.
 pub enum Fault {
     Size,
     Records,
