@@ -6,27 +6,23 @@ use mathlib.Core.Bool.{Bool, true, false}
 use mathlib.Core.Logic.{⊎-elim, inr}
 use mathlib.Core.List.{List, []}
 use native.Mathlib.Omega.{arith}
-use native.Mathlib.Decide.{decLt}
 use borrow.Author.Tests.{eq-eqb, ne-eqb}
-use lib.Dec.{T, eqb, leb, leb→le}
+use lib.Dec.{T, eqb, ltb, leb, ltb→lt, leb→le}
 use lib.ListN.{getD}
 use Rattle.laws.specs.Table.{pick, both, some, arm, all-below, both-left, both-right}
 use Rattle.book.specs.Format.{wordAt, kindOf, layoutOf, totalOf, rowOf, Row, within, TYPE, TU}
-use Rattle.book.proofs.Layouts.{beyond}
+use Rattle.book.proofs.Layouts.{kind-marks}
 use Rattle.book.specs.Read.{markAt, kindAt, fieldAt, countIn, countAt, totalAt, alike, repeats}
 
-both-true : (x : Bool) → both x true ≡ x
-both-true true = refl
-both-true false = refl
+both-last : (x : Bool) → both x true ≡ x
+both-last true = refl
+both-last false = refl
 
--- the marks of types
-type-mark : (m : ℕ) → kindOf m ≡ TYPE → (1 ≤ m) × (m ≤ 3)
-unfolding kindOf within
-type-mark m e = elim (decLt m 38) [
-  | yes h ↦ (let t : T (within 1 3 m) = rw (eq-eqb (kindOf m) TYPE e) at (all-below (λ k. pick (eqb (kindOf k) TYPE) (within 1 3 k) true) 38 tt m h) in
-      (leb→le 1 m (both-left (leb 1 m) (leb m 3) t), leb→le m 3 (both-right (leb 1 m) (leb m 3) t)))
-  | no g ↦ absurd (let z : _≡_ {A = ℕ} 0 1 = sym (ap (λ (r : Row). r .kind) (beyond m (omega arith))) ∙ e in omega arith)
-]
+-- a type's mark is tu, ts or tp
+pub type-mark : (m : ℕ) → kindOf m ≡ TYPE → (0 < m) × (m ≤ 3)
+type-mark m e =
+    let t : T (both (ltb 0 m) (leb m 3)) = kind-marks (λ j. both (ltb 0 j) (leb j 3)) TYPE tt tt m e in
+    (ltb→lt 0 m (both-left (ltb 0 m) (leb m 3) t), leb→le m 3 (both-right (ltb 0 m) (leb m 3) t))
 
 module _ (b : List ℕ) (p : ℕ) where
   -- unit has no field, and the other types have two
@@ -64,7 +60,7 @@ module _ (b : List ℕ) (p q : ℕ) where
 
     pub alike-first : totalAt b p ≡ 2 → wordAt b (p + 4) ≡ wordAt b (q + 4) → eqb (wordAt b (p + 2)) (wordAt b (q + 2)) ≡ alike b p q
     unfolding alike
-    alike-first e n = rw (eq-eqb (wordAt b p) (wordAt b q) letters, e, second-field b p, second-field b q, eq-eqb (wordAt b (p + 4)) (wordAt b (q + 4)) n, first-field b p, first-field b q) (sym (both-true _))
+    alike-first e n = rw (eq-eqb (wordAt b p) (wordAt b q) letters, e, second-field b p, second-field b q, eq-eqb (wordAt b (p + 4)) (wordAt b (q + 4)) n, first-field b p, first-field b q) (sym (both-last _))
 
 module _ (b i : List ℕ) (r p m : ℕ) (is : m ≡ markAt b p) where
   pub repeats-not : (kindOf m ≡ TYPE → ⊥) → false ≡ repeats b i r p

@@ -21,6 +21,7 @@ use Rattle.book.specs.declared.fault.Fault.{Fault}
 use Rattle.book.specs.declared.fault.Fault.the-variants.{Cut, Mark, Twice, Depth, Loose}
 use Rattle.book.specs.declared.read.Frame.{Frame}
 use Rattle.book.specs.declared.read.Frame.the-variants as frames
+use Rattle.book.proofs.Picks.{second}
 
 -- the last records: n of them stand before the last
 module _ (b : List ℕ) (s : State) (n j : ℕ) where
@@ -74,6 +75,11 @@ bad-is false true v x m n e f q = let z : f ≡ Mark = cc in ap stop z
 bad-is false false true x m n e f q = let z : f ≡ Cut = cc in ap stop z
 bad-is false false false x m n e f q = absurd (let z : _≡_ {A = ℕ} 0 1 = cc in omega arith)
 
+-- a frame that is there is no refusal
+of-frame : (f : Fault) (m n e : ℕ) → frames.Bad f ≡ frames.Of m n e → ⊥
+of-frame f m n e q = let z : _≡_ {A = ℕ} 0 1 = cc in omega arith
+
+-- what a frame that is there says: the three tests failed, and these are its mark, count and end
 record Whole (t u v : Bool) (m n e m′ n′ e′ : ℕ) : Type 0 where
   long : t ≡ false
   marked : u ≡ false
@@ -83,10 +89,12 @@ record Whole (t u v : Bool) (m n e m′ n′ e′ : ℕ) : Type 0 where
   end : e′ ≡ e
 
 whole-is : (t u v : Bool) (m n e m′ n′ e′ : ℕ) → pick t (frames.Bad Cut) (pick u (frames.Bad Mark) (pick v (frames.Bad Cut) (frames.Of m n e))) ≡ frames.Of m′ n′ e′ → Whole t u v m n e m′ n′ e′
-whole-is true u v m n e m′ n′ e′ q = absurd (let z : _≡_ {A = ℕ} 0 1 = cc in omega arith)
-whole-is false true v m n e m′ n′ e′ q = absurd (let z : _≡_ {A = ℕ} 0 1 = cc in omega arith)
-whole-is false false true m n e m′ n′ e′ q = absurd (let z : _≡_ {A = ℕ} 0 1 = cc in omega arith)
-whole-is false false false m n e m′ n′ e′ q = record { long = refl; marked = refl; uncut = refl; mark = cc; count = cc; end = cc }
+whole-is t u v m n e m′ n′ e′ q =
+    let x = second t _ _ _ (of-frame Cut m′ n′ e′) q in
+    let y = second u _ _ _ (of-frame Mark m′ n′ e′) (x .1) in
+    let z = second v _ _ _ (of-frame Cut m′ n′ e′) (y .1) in
+    let w : frames.Of m n e ≡ frames.Of m′ n′ e′ = z .1 in
+    record { long = x .0; marked = y .0; uncut = z .0; mark = cc; count = cc; end = cc }
 
 -- a count is no greater than the record is long
 count-within : (b : List ℕ) (p : ℕ) → countAt b p ≤ totalAt b p

@@ -12,7 +12,7 @@ use lib.ListN.{length, getD}
 use Rattle.laws.specs.Order.{by-lt}
 use Rattle.laws.specs.Table.{pick, both, below, both-left, both-right, all-below}
 use Rattle.book.specs.Format.{wordAt, kindOf, Row, rowOf, layoutRow, layoutOf, roleOf, totalOf, inRange, EXPRESSION, FUNCTION, END}
-use Rattle.book.proofs.Layouts.{beyond}
+use Rattle.book.proofs.Layouts.{each-row}
 use Rattle.book.specs.Read.{countIn, countAt, totalAt, endAt, roleAt, fieldAt, names}
 use Rattle.book.specs.Index.{mark, kind, count, total, role, field, named}
 use Rattle.book.specs.Valid.{Valid}
@@ -20,8 +20,8 @@ use Rattle.book.specs.declared.format.Layout.{Layout}
 
 module _ (l : Layout) (n : ℕ) where
   -- the e-th place of the group's q-th time is one of the group's
-  in-group : (q e : ℕ) → q < n → e < l .eachs → q * l .eachs + e < n * l .eachs
-  in-group q e h g = omega (arith, mul-le-mul-right (l .eachs) h)
+  group-inside : (q e : ℕ) → q < n → e < l .eachs → q * l .eachs + e < n * l .eachs
+  group-inside q e h g = omega (arith, mul-le-mul-right (l .eachs) h)
 
   -- the roles of the head
   head-role : (k : ℕ) → k < l .heads → roleOf l n k ≡ getD (l .head) k 0
@@ -38,12 +38,12 @@ module _ (l : Layout) (n : ℕ) where
   each-role k q e z h g =
       let past : l .heads ≤ k = omega arith in
       let off : k - l .heads ≡ q * l .eachs + e = omega arith in
-      let in-it : q * l .eachs + e < n * l .eachs = in-group q e h g in
+      let in-it : q * l .eachs + e < n * l .eachs = group-inside q e h g in
       rw (le-ltb k (l .heads) past, off, lt-ltb (q * l .eachs + e) (n * l .eachs) in-it, mul-add-mod-self-right q (l .eachs) e, mod-eq-of-lt g)
 
   pub each-inside : (k q e : ℕ) → k ≡ l .heads + q * l .eachs + e → q < n → e < l .eachs → k < totalOf l n
   unfolding totalOf
-  each-inside k q e z h g = omega (arith, in-group q e h g)
+  each-inside k q e z h g = omega (arith, group-inside q e h g)
 
   -- the role of the field after the group, if there is one
   pub last-role : (k : ℕ) → k ≡ l .heads + n * l .eachs → roleOf l n k ≡ l .last
@@ -85,20 +85,6 @@ names-kind kd x t =
 names-end : (x : ℕ) → (x ≡ 65535 → ⊥) → names END x ≡ EXPRESSION
 unfolding names
 names-end x h = rw (ne-eqb x 65535 h)
-
--- what computes at each row of the table holds of every number's row
-each-row : (f : Row → Bool) → T (below (λ j. f (rowOf j)) 38) → (m : ℕ) → T (f (rowOf m))
-each-row f t m =
-    by-lt m 38 (all-below (λ j. f (rowOf j)) 38 t m)
-    (λ h. subst (λ (w : Row). T (f w)) (sym (beyond m h)) (all-below (λ j. f (rowOf j)) 38 t 0 (lit< tt)))
-
--- what computes at each mark of a kind holds of every mark of that kind
-pub kind-marks : (f : ℕ → Bool) (kd : ℕ) → T (ltb 0 kd) → T (below (λ j. pick (eqb (rowOf j .kind) kd) (f j) true) 38) → (m : ℕ) → kindOf m ≡ kd → T (f m)
-unfolding kindOf
-kind-marks f kd some t m e =
-    by-lt m 38
-    (λ h. rw (e, eq-eqb kd kd refl) at (all-below (λ j. pick (eqb (rowOf j .kind) kd) (f j) true) 38 t m h))
-    (λ h. absurd (let z : 0 ≡ kd = sym (ap (λ w. w .kind) (beyond m h)) ∙ e in omega (arith, ltb→lt 0 kd some)))
 
 -- the word before a field is the field before it
 pub field-before : (b : List ℕ) (p k : ℕ) → wordAt b (p + 2 * (k + 1)) ≡ fieldAt b p k

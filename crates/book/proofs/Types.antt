@@ -17,7 +17,8 @@ use Rattle.book.specs.Read.{markAt, kindAt, alike}
 use Rattle.book.specs.Index.{mark, kind, total, field}
 use Rattle.book.specs.Valid.{Valid}
 use Rattle.book.specs.Tree.{typeOf, asType}
-use Rattle.book.proofs.Roles.{Field, Names, kind-marks, mark-total, head-field, names-earlier}
+use Rattle.book.proofs.Roles.{Field, Names, mark-total, head-field, names-earlier}
+use Rattle.book.proofs.Alikes.{type-mark}
 use Rattle.book.proofs.Built.{tree-at}
 
 -- a known mark's letters are its row's
@@ -36,12 +37,7 @@ all-equal : (f g : ℕ → ℕ) (n : ℕ) → ((k : ℕ) → k < n → f k ≡ g
 all-equal f g zero h = refl
 all-equal f g (suc n) h = rw (eq-eqb (f n) (g n) (h n (omega arith))) (all-equal f g n (λ k o. h k (omega arith)))
 
--- a type's mark is tu, ts or tp
-type-mark : (m : ℕ) → kindOf m ≡ TYPE → (0 < m) × (m ≤ 3)
-type-mark m e =
-    let t : T (both (ltb 0 m) (leb m 3)) = kind-marks (λ j. both (ltb 0 j) (leb j 3)) TYPE tt tt m e in
-    (ltb→lt 0 m (both-left (ltb 0 m) (leb m 3) t), leb→le m 3 (both-right (ltb 0 m) (leb m 3) t))
-
+-- so what holds at each of the three marks holds at a type's
 by-mark : (P : ℕ → Type 0) → P TU → P TS → P TP → (m : ℕ) → (0 < m) × (m ≤ 3) → P m
 by-mark P u s p zero h = absurd (omega arith)
 by-mark P u s p (suc zero) h = u

@@ -63,21 +63,20 @@ module _ (b i ds : List ℕ) (r p k : ℕ) (nm : List ℕ) (d : ℕ) where
   unfolding judge fieldAt
   judge-name e kind x q y z = rw (q, y, e, ne-eqb (names (roleAt b p k) (fieldAt b p k)) 0 (λ w. z (q ∙ w)))
 
-  -- a field that is refused refuses the record; the next field goes on from what one that is not leaves
+  -- the verdict on a field, and what the code makes of it: refused, it refuses the record; else the next field goes on from there
   module _ (total : ℕ) (more : k < total) (v : Judged) (nm′ : List ℕ) (is : verdictOf v nm′ ≡ judge b i ds r p k nm d) where
-    pub fields-bad : (f : Fault) → v ≡ judgeds.Bad f → bad f ≡ fields b i ds r p k (total - k) nm d
+    field-judged : (w : Verdict) → verdictOf v nm′ ≡ w → andThen w (λ l e. fields b i ds r p (k + 1) (total - (k + 1)) l e) ≡ fields b i ds r p k (total - k) nm d
     unfolding fields
-    fields-bad f e =
+    field-judged w e =
         let q : total - k ≡ suc (total - (k + 1)) = omega arith in
-        let w : judge b i ds r p k nm d ≡ bad f = sym is ∙ ap (λ (u : Judged). verdictOf u nm′) e in
-        rw (q, w)
+        let z : judge b i ds r p k nm d ≡ w = sym is ∙ e in
+        rw (q, z)
 
-    pub fields-good : (d′ : ℕ) → v ≡ judgeds.Good d′ → fields b i ds r p (k + 1) (total - (k + 1)) nm′ d′ ≡ fields b i ds r p k (total - k) nm d
-    unfolding fields
-    fields-good d′ e =
-        let q : total - k ≡ suc (total - (k + 1)) = omega arith in
-        let w : judge b i ds r p k nm d ≡ good nm′ d′ = sym is ∙ ap (λ (u : Judged). verdictOf u nm′) e in
-        rw (q, w)
+    pub field-refused : (f : Fault) → v ≡ judgeds.Bad f → bad f ≡ fields b i ds r p k (total - k) nm d
+    field-refused f e = field-judged (bad f) (ap (λ (u : Judged). verdictOf u nm′) e)
+
+    pub field-passed : (d′ : ℕ) → v ≡ judgeds.Good d′ → fields b i ds r p (k + 1) (total - (k + 1)) nm′ d′ ≡ fields b i ds r p k (total - k) nm d
+    field-passed d′ e = field-judged (good nm′ d′) (ap (λ (u : Judged). verdictOf u nm′) e)
 
 -- after the last field
 pub fields-end : (b i ds : List ℕ) (r p k total : ℕ) (nm : List ℕ) (d : ℕ) → total ≤ k → fields b i ds r p k (total - k) nm d ≡ good nm d

@@ -5,7 +5,7 @@ use borrow.Author.Tests.{le-ltb, lt-ltb}
 use native.Mathlib.Omega.{arith}
 use Prim.Native.Nat.{_-_}
 use Rattle.book.specs.Format.{roleOf}
-use Rattle.book.proofs.Layouts.{groups-fit, in-group, group-some}
+use Rattle.book.proofs.Layouts.{groups-fit, place-inside, group-some}
 use Rattle.book.proofs.format.role_of.Statement.{statement}
 use Rattle.book.proofs.format.role_of.Tie as tie
 
@@ -18,6 +18,6 @@ role-of-spec =
     (λ c. rw (lt-ltb _ _ (c .before .if1 .taken)))
     (λ c. omega (arith, groups-fit (c .before .args .n) (c .before .args .t1 .eachs) (c .before .pre .1) (c .before .pre .0 .eachs)))
     (λ c. group-some (c .before .before .args .k - c .before .before .args .t1 .heads) (c .before .before .args .n) (c .before .before .args .t1 .eachs) (c .if2 .taken))
-    (λ c. omega (arith, in-group (c .before .before .args .k - c .before .before .args .t1 .heads) (c .before .before .args .n) (c .before .before .args .t1 .eachs) (c .if2 .taken), c .before .before .pre .0 .eachs))
+    (λ c. omega (arith, place-inside (c .before .before .args .k - c .before .before .args .t1 .heads) (c .before .before .args .n) (c .before .before .args .t1 .eachs) (c .if2 .taken), c .before .before .pre .0 .eachs))
     (λ c. rw (le-ltb _ _ (c .before .before .if1 .left), lt-ltb _ _ (c .before .if2 .taken)))
     (λ c. rw (le-ltb _ _ (c .before .if1 .left), le-ltb _ _ (c .if2 .left))))

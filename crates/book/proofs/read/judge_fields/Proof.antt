@@ -3,7 +3,7 @@
 use Prim.Native.Nat.{_-_, _≤_}
 use Rattle.book.proofs.Frames.{field-within, role-is, total-at, total-fits}
 use Rattle.book.proofs.Layouts.{small-of}
-use Rattle.book.proofs.Ways.{fields-bad, fields-good, fields-end, fields-all}
+use Rattle.book.proofs.Ways.{field-refused, field-passed, fields-end, fields-all}
 use Rattle.book.specs.Format.{Small, layoutOf}
 use Rattle.book.specs.Read.{fields, layoutAt, totalAt}
 use borrow.Author.Needs.{needs}
@@ -70,7 +70,7 @@ judge-fields-spec =
     let w : Small l = rw (c .before .before .before .before .before .before .before .before .before .before .before .layout-of .ensures) (small-of (s .args .mark)) in
     let is : l ≡ layoutAt b p = c .before .before .before .before .before .before .before .before .before .before .before .layout-of .ensures ∙ ap layoutOf (s .pre .1 .mark) in
     let t : c .before .before .before .before .before .before .before .before .before .before .total-of .result ≡ totalAt b p = total-at b p l (s .args .count) _ is (s .pre .1 .count) (c .before .before .before .before .before .before .before .before .before .before .total-of .ensures) in
-    fields-bad _ _ _ _ _ _ _ _ _ (c .before .before .before .before .before .before .before .before .loop-test .taken) _ _ (c .before .before .before .before .before .judge-field .ensures) _ (c .before .f .given .1) ∙ (c .before .before .before .before .before .before .before .before .before .loop .inv .0 ∙ fields-all _ _ _ _ _ _ _ _ _ t))
+    field-refused _ _ _ _ _ _ _ _ _ (c .before .before .before .before .before .before .before .before .loop-test .taken) _ _ (c .before .before .before .before .before .judge-field .ensures) _ (c .before .f .given .1) ∙ (c .before .before .before .before .before .before .before .before .before .loop .inv .0 ∙ fields-all _ _ _ _ _ _ _ _ _ t))
     (λ c.
     let s = c .before .before .before .before .before .before .before .before .before .before .before .before .before .before .before .before in
     let b = s .args .book .now in
@@ -80,7 +80,7 @@ judge-fields-spec =
     let is : l ≡ layoutAt b p = c .before .before .before .before .before .before .before .before .before .before .before .layout-of .ensures ∙ ap layoutOf (s .pre .1 .mark) in
     omega (arith, total-fits l _ w (s .pre .1 .short), c .before .before .before .before .before .before .before .before .before .before .total-of .ensures))
     (λ c. omega arith)
-    (λ c. (fields-good _ _ _ _ _ _ _ _ _ (c .before .before .before .before .before .before .before .before .loop-test .taken) _ _ (c .before .before .before .before .before .judge-field .ensures) _ (c .before .d .given .1) ∙ c .before .before .before .before .before .before .before .before .before .loop .inv .0, search needs, search needs))
+    (λ c. (field-passed _ _ _ _ _ _ _ _ _ (c .before .before .before .before .before .before .before .before .loop-test .taken) _ _ (c .before .before .before .before .before .judge-field .ensures) _ (c .before .d .given .1) ∙ c .before .before .before .before .before .before .before .before .before .loop .inv .0, search needs, search needs))
     (λ c. search needs)
     (λ c.
     let s = c .before .before .before .before .before .before .before .before in
