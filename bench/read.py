@@ -24,17 +24,25 @@ def record(mark, *fields):
 def types():
     """Types that are pairwise unlike and shallow, without end."""
     yield record("tu")
-    at = 1
-    for high in range(at, 65536):
-        for low in range(high):
+    for high in range(65536):
+        for low in range(high + 1):
             for mark in ("ts", "tp"):
-                yield record(mark, low, high - 1)
-                at += 1
+                yield record(mark, low, high)
 
 
-def book_of_types(size):
+def close_sums():
+    """Sums that share their second field with as many others as the depth allows: they part late."""
+    yield record("tu")
+    count = 1
+    for first in range(65536):
+        for second in range(min(17, count)):
+            yield record("ts", first, second)
+            count += 1
+
+
+def book_of(records, size):
     book = b""
-    for each in types():
+    for each in records:
         book += each
         if size <= len(book):
             return book[:size]
@@ -43,8 +51,9 @@ def book_of_types(size):
 def books():
     smallest = record("tu") + record("et", 0, 0)
     yield "two records", smallest
-    yield "types alone, 65,535 bytes", book_of_types(65535)
-    yield "4,096 types", book_of_types(2 + 6 * 4095)
+    yield "types alone, 65,535 bytes", book_of(types(), 65535)
+    yield "4,096 types", book_of(types(), 2 + 6 * 4095)
+    yield "4,096 sums that part late", book_of(close_sums(), 2 + 6 * 4095)
     yield "4,096 records, no type but one", record("tu") + record("pn") * 4094 + record("et", 0, 0)
     yield "patterns of 256 each", wide_patterns()
 

@@ -1,16 +1,16 @@
 -- When two types are alike, and when one is alike an earlier one, a law for each way through.
 -- Assumes nothing.
-use Prim.Native.Nat.{ℕ, zero, suc, _+_, _*_, _-_, _≤_, _<_}
+use Prim.Native.Nat.{ℕ, suc, _+_, _-_, _≤_, _<_}
 use mathlib.Core.Path.{_≡_, refl, sym, ap, _∙_}
 use mathlib.Core.Bool.{Bool, true, false}
-use mathlib.Core.Logic.{⊎-elim, inr}
+use mathlib.Core.Logic.{inr}
 use mathlib.Core.List.{List, []}
 use native.Mathlib.Omega.{arith}
 use borrow.Author.Tests.{eq-eqb, ne-eqb}
 use lib.Dec.{T, eqb, ltb, leb, ltb→lt, leb→le}
 use lib.ListN.{getD}
-use Rattle.laws.specs.Table.{pick, both, some, arm, all-below, both-left, both-right}
-use Rattle.book.specs.Format.{wordAt, kindOf, layoutOf, totalOf, rowOf, Row, within, TYPE, TU}
+use Rattle.laws.specs.Table.{both, some, arm, both-left, both-right}
+use Rattle.book.specs.Format.{wordAt, kindOf, layoutOf, totalOf, TYPE, TU}
 use Rattle.book.proofs.Layouts.{kind-marks}
 use Rattle.book.specs.Read.{markAt, kindAt, fieldAt, countIn, countAt, totalAt, alike, repeats}
 

@@ -1,6 +1,6 @@
 -- How a record and a book end, a law for each way through.
 -- Assumes nothing.
-use Prim.Native.Nat.{ℕ, zero, suc, _+_, _*_, _-_, _≤_, _<_}
+use Prim.Native.Nat.{ℕ, suc, _+_, _*_, _-_, _≤_, _<_}
 use mathlib.Core.Path.{_≡_, refl, sym, ap, _∙_}
 use mathlib.Core.Bool.{Bool, true, false}
 use mathlib.Core.Logic.{⊎-elim}
@@ -11,15 +11,14 @@ use borrow.Author.Tests.{eq-eqb, ne-eqb, le-leb, lt-leb, eqb-false, ltb-false}
 use lib.Dec.{eqb, ltb}
 use lib.ListN.{length, getD, set}
 use Rattle.laws.specs.Table.{pick}
-use Rattle.book.specs.Format.{wordAt, totalOf, EXPRESSION}
+use Rattle.book.specs.Format.{totalOf, EXPRESSION}
 use Rattle.book.specs.Faults.{refusal}
-use Rattle.book.specs.Read.{markAt, kindAt, layoutAt, countIn, countAt, totalAt, endAt, fields, Verdict, good, bad, repeats, State, state, Moved, on, stop, settle, step, Outcome, done, refused, isUnnamed, loose}
-use Rattle.book.specs.Ready.{Framed, Opens, frameFrom, frameOf, verdictOf}
+use Rattle.book.specs.Read.{markAt, kindAt, layoutAt, countIn, countAt, totalAt, endAt, fields, Verdict, good, bad, repeats, State, state, Moved, on, stop, settle, step, done, refused, isUnnamed, loose}
+use Rattle.book.specs.Ready.{Opens, frameFrom, frameOf, verdictOf}
 use Rattle.book.specs.declared.read.Judged.{Judged}
 use Rattle.book.specs.declared.read.Judged.the-variants as judgeds
 use Rattle.book.specs.declared.fault.Fault.{Fault}
 use Rattle.book.specs.declared.fault.Fault.the-variants.{Cut, Mark, Twice, Depth, Loose}
-use Rattle.book.specs.declared.read.Frame.{Frame}
 use Rattle.book.specs.declared.read.Frame.the-variants as frames
 use Rattle.book.proofs.Picks.{second}
 

@@ -1,7 +1,7 @@
 -- What the code's numbers of a record come to: its layout, its count, its end.
 -- Assumes nothing.
 use Prim.Native.Nat.{ℕ, _+_, _*_, _≤_, _<_}
-use mathlib.Core.Path.{_≡_, refl, sym, ap, _∙_}
+use mathlib.Core.Path.{_≡_, ap, _∙_}
 use mathlib.Core.Bool.{Bool, true, false}
 use mathlib.Core.List.{List}
 use native.Mathlib.Omega.{arith}
@@ -9,7 +9,7 @@ use borrow.Author.Tests.{lt-ltb, le-ltb}
 use lib.Dec.{eqb}
 use lib.ListN.{length}
 use Rattle.laws.specs.Table.{pick}
-use Rattle.book.specs.Format.{Small, layoutOf, totalOf, roleOf}
+use Rattle.book.specs.Format.{Small, totalOf, roleOf}
 use Rattle.book.specs.Read.{markAt, layoutAt, countIn, countAt, totalAt, endAt, roleAt}
 use Rattle.book.specs.Ready.{frameFrom}
 use Rattle.book.specs.declared.format.Layout.{Layout}

@@ -1,9 +1,9 @@
 -- What holds of every layout, and what a group's count and size come to.
 -- Assumes nothing.
-use Prim.Native.Nat.{ℕ, zero, suc, _+_, _*_, _-_, _%_, _≤_, _<_}
+use Prim.Native.Nat.{ℕ, _*_, _%_, _≤_, _<_}
 use mathlib.Core.Path.{_≡_, refl, sym, ap, subst, _∙_}
 use native.Mathlib.Nat.{mul-le-mul-left, mul-zero, mod-lt, eq-zero-or-pos}
-use mathlib.Core.Logic.{_⊎_, ⊎-elim, inr}
+use mathlib.Core.Logic.{⊎-elim, inr}
 use mathlib.Core.Bool.{Bool, true, false}
 use mathlib.Core.List.{[], _∷_}
 use lib.Dec.{T, eqb, ltb, leb, ltb→lt, leb→le, lit<}

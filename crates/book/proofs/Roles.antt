@@ -3,18 +3,17 @@
 use Prim.Native.Nat.{ℕ, _+_, _*_, _-_, _≤_, _<_}
 use mathlib.Core.Bool.{Bool, true, false}
 use mathlib.Core.List.{List}
-use mathlib.Core.Path.{_≡_, refl, sym, ap, _∙_, subst}
+use mathlib.Core.Path.{_≡_, refl, sym, ap, _∙_}
 use native.Mathlib.Nat.{mul-le-mul-right, mul-add-mod-self-right, mod-eq-of-lt}
 use native.Mathlib.Omega.{arith}
-use borrow.Author.Tests.{lt-ltb, le-ltb, le-leb, eq-eqb, ne-eqb}
-use lib.Dec.{T, eqb, ltb, leb, ltb→lt, leb→le, lit<}
+use borrow.Author.Tests.{lt-ltb, le-ltb, le-leb, ne-eqb}
+use lib.Dec.{T, eqb, ltb, leb, ltb→lt, leb→le}
 use lib.ListN.{length, getD}
-use Rattle.laws.specs.Order.{by-lt}
-use Rattle.laws.specs.Table.{pick, both, below, both-left, both-right, all-below}
-use Rattle.book.specs.Format.{wordAt, kindOf, Row, rowOf, layoutRow, layoutOf, roleOf, totalOf, inRange, EXPRESSION, FUNCTION, END}
+use Rattle.laws.specs.Table.{pick, both, below, both-left, both-right}
+use Rattle.book.specs.Format.{wordAt, rowOf, layoutRow, layoutOf, roleOf, totalOf, inRange, EXPRESSION, FUNCTION, END}
 use Rattle.book.proofs.Layouts.{each-row}
 use Rattle.book.specs.Read.{countIn, countAt, totalAt, endAt, roleAt, fieldAt, names}
-use Rattle.book.specs.Index.{mark, kind, count, total, role, field, named}
+use Rattle.book.specs.Index.{mark, kind, count, total, role, field, named, Begins, Lies}
 use Rattle.book.specs.Valid.{Valid}
 use Rattle.book.specs.declared.format.Layout.{Layout}
 
@@ -142,6 +141,11 @@ module _ (b i : List ℕ) (r m : ℕ) (is : mark b i r ≡ m) where
   pub last-field : (k : ℕ) → k ≡ layout m .heads + times * layout m .eachs → T (ltb 0 (layout m .last)) → Field b i r k (layout m .last)
   last-field k z t = by-layout k _ (last-inside (layout m) times k z (λ o. omega (arith, ltb→lt 0 (layout m .last) t))) (last-role (layout m) times k z)
 
+-- a record begins in the book, which is what reading its mark asks
+pub record-begins : {b i : List ℕ} {n : ℕ} → Valid b i n → (r : ℕ) → r < n → Begins b i r
+unfolding endAt
+record-begins v r h = record { listed = omega (arith, v .rows .few, v .rows .indexed); inside = omega (arith, v .rows .inside r h .ends) }
+
 -- field k of a record of a valid book
 module _ {b i : List ℕ} {n : ℕ} (v : Valid b i n) (r : ℕ) (h : r < n) {k w : ℕ} (f : Field b i r k w) where
   -- what the field names is earlier and of the kind
@@ -159,10 +163,10 @@ module _ {b i : List ℕ} {n : ℕ} (v : Valid b i n) (r : ℕ) (h : r < n) {k w
   pub end-earlier : w ≡ END → (field b i r k ≡ 65535 → ⊥) → Names b i r k EXPRESSION
   end-earlier e some = by-name EXPRESSION (rw e (names-end (field b i r k) some)) (λ z. omega arith)
 
-  -- the field lies in the book
-  pub field-lies : getD i r 0 + 2 + 2 * k + 1 < length b
+  -- the field lies in the book, which is what reading it asks
+  pub field-lies : Lies b i r k
   unfolding endAt
-  field-lies = omega (arith, f .inside, v .rows .inside r h .ends)
+  field-lies = record { listed = omega (arith, v .rows .few, v .rows .indexed); inside = omega (arith, f .inside, v .rows .inside r h .ends) }
 
   -- its number is in range
   pub ranged-is : T (inRange w (wordAt b (getD i r 0 + 2 * k)) (field b i r k))

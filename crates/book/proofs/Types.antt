@@ -7,12 +7,12 @@ use mathlib.Core.Logic.{⊎-elim}
 use mathlib.Core.Path.{_≡_, refl, sym, ap, _∙_}
 use native.Mathlib.Omega.{arith}
 use borrow.Author.Tests.{eq-eqb}
-use lib.Dec.{T, eqb, ltb, leb, ltb→lt, leb→le, eqb→eq}
+use lib.Dec.{eqb, eqb→eq}
 use lib.ListN.{getD}
 use Rattle.laws.specs.Choices.{all-chosen}
-use Rattle.laws.specs.Table.{both, below, both-left, both-right}
+use Rattle.laws.specs.Table.{below}
 use Rattle.simplicity.specs.Types.{Ty, one, sum, product}
-use Rattle.book.specs.Format.{wordAt, markOf, kindOf, rowOf, marks, numbered, totalOf, TYPE, TU, TS, TP}
+use Rattle.book.specs.Format.{wordAt, markOf, rowOf, marks, numbered, totalOf, TYPE, TU, TS, TP}
 use Rattle.book.specs.Read.{markAt, kindAt, alike}
 use Rattle.book.specs.Index.{mark, kind, total, field}
 use Rattle.book.specs.Valid.{Valid}

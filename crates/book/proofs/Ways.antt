@@ -1,13 +1,13 @@
 -- How a field and what it names are judged, a law for each way through.
 -- Assumes nothing.
-use Prim.Native.Nat.{ℕ, zero, suc, _+_, _*_, _-_, _≤_, _<_}
-use mathlib.Core.Path.{_≡_, refl, sym, ap, _∙_}
+use Prim.Native.Nat.{ℕ, suc, _+_, _*_, _-_, _≤_, _<_}
+use mathlib.Core.Path.{_≡_, sym, ap, _∙_}
 use mathlib.Core.Bool.{Bool, true, false}
 use mathlib.Core.List.{List, [], _∷_}
 use native.Mathlib.Omega.{arith}
 use borrow.Author.Tests.{lt-ltb, le-ltb, eq-eqb, ne-eqb}
 use lib.ListN.{getD}
-use Rattle.laws.specs.Table.{pick, among}
+use Rattle.laws.specs.Table.{among}
 use Rattle.book.specs.Format.{wordAt, inRange, EXPRESSION, STATEMENT}
 use Rattle.book.specs.Read.{kindAt, roleAt, fieldAt, names, Verdict, good, bad, deeper, once, refer, judge, fields, andThen}
 use Rattle.book.specs.Ready.{verdictOf}

@@ -4,6 +4,7 @@ use Prim.Native.Nat.{ℕ}
 use Rattle.book.specs.declared.fault.Fault.{Fault}
 use Rattle.book.specs.declared.fault.Fault.the-variants.{Size, Records, Cut, Mark, Number, Reference, Twice, Depth, Loose, Undefined, Room, Bindings, Ty, Name, Nodes, Steep, Witness, Cells, Stuck, Jet}
 use Rattle.book.specs.declared.fault.Refusal.{Refusal}
+use Rattle.book.specs.declared.fault.Numbers.{Numbers}
 use Rattle.book.specs.declared.fault.ReadAnswer.{ReadAnswer}
 use Rattle.book.specs.declared.fault.ReadAnswer.the-variants as answers
 
@@ -34,15 +35,11 @@ faultNumber Jet = 20
 abbrev pub refusal : Fault → ℕ → Refusal
 refusal f p = record { fault = f; place = p }
 
+-- an answer in numbers
+abbrev pub numbers : ℕ → ℕ → ℕ → Numbers
+numbers n p c = record { number = n; place = p; count = c }
+
 -- document 01, Refusals by number: a success is number 0 at place 0 with its count; a refusal has count 0
-abbrev pub numberOf : ReadAnswer → ℕ
-numberOf (answers.Records n) = 0
-numberOf (answers.Refused w) = faultNumber (w .fault)
-
-abbrev pub placeOf : ReadAnswer → ℕ
-placeOf (answers.Records n) = 0
-placeOf (answers.Refused w) = w .place
-
-abbrev pub countOf : ReadAnswer → ℕ
-countOf (answers.Records n) = n
-countOf (answers.Refused w) = 0
+abbrev pub numbersOf : ReadAnswer → Numbers
+numbersOf (answers.Records n) = numbers 0 0 n
+numbersOf (answers.Refused w) = numbers (faultNumber (w .fault)) (w .place) 0

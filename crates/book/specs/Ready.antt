@@ -6,7 +6,7 @@ use mathlib.Core.List.{List}
 use lib.ListN.{length, getD}
 use lib.Dec.{eqb, ltb}
 use Rattle.laws.specs.Table.{pick}
-use Rattle.book.specs.Read.{markAt, countAt, endAt, Verdict, good, bad, State, state, Moved, on, stop, Outcome, done, refused}
+use Rattle.book.specs.Read.{markAt, countAt, endAt, Verdict, good, bad, state, Moved, on, stop, Outcome, done, refused}
 use Rattle.book.specs.declared.fault.Fault.the-variants.{Cut, Mark}
 use Rattle.book.specs.declared.fault.ReadAnswer.{ReadAnswer}
 use Rattle.book.specs.declared.fault.ReadAnswer.the-variants as answers

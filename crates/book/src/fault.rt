@@ -1,6 +1,6 @@
 // Refusals by number, and READ's answer, which nests one.
 ghost use mathlib.Core.Path.{_≡_};
-ghost use Rattle.book.specs.Faults.{faultNumber};
+ghost use Rattle.book.specs.Faults.{faultNumber, numbersOf};
 
 // What was wrong: document 01, Refusals by number, in its order. TYPE is `Ty`, since `Type` is a word of
 // the language of the proofs.
@@ -64,5 +64,33 @@ pub fn fault_number(fault: Fault) -> u8
         Fault::Cells => 18,
         Fault::Stuck => 19,
         Fault::Jet => 20,
+    }
+}
+
+// An answer as document 01 gives it: number, place and count.
+pub struct Numbers {
+    pub number: u8,
+    pub place: u16,
+    pub count: u16,
+}
+
+// A success is number 0 at place 0 with its count; a refusal has count 0.
+pub fn numbers_of(answer: ReadAnswer) -> Numbers
+    ensures { λ r. ⌜ r ≡ numbersOf answer ⌝ }
+{
+    match answer {
+        ReadAnswer::Records(n) => Numbers {
+            number: 0,
+            place: 0,
+            count: n,
+        },
+        ReadAnswer::Refused(why) => {
+            let fault = why.fault;
+            Numbers {
+                number: fault_number(fault),
+                place: why.place,
+                count: 0,
+            }
+        }
     }
 }

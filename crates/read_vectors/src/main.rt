@@ -1,34 +1,9 @@
 // Runs READ on a stream of vectors, and prints how many there were and which answers were wrong.
 // A vector: the expected number (one byte), place and count (two bytes each, low first), the book's
 // length (three bytes, low first), and the book.
-use book::fault::ReadAnswer;
-use book::fault::fault_number;
+use book::fault::Numbers;
+use book::fault::numbers_of;
 use libc::STDIN_FILENO;
-
-// A number, place and count.
-struct Expected {
-    number: u8,
-    place: u16,
-    count: u16,
-}
-
-fn given(answer: ReadAnswer) -> Expected {
-    match answer {
-        ReadAnswer::Records(n) => Expected {
-            number: 0,
-            place: 0,
-            count: n,
-        },
-        ReadAnswer::Refused(why) => {
-            let fault = why.fault;
-            Expected {
-                number: fault_number(fault),
-                place: why.place,
-                count: 0,
-            }
-        }
-    }
-}
 
 fn low_first(a: u8, b: u8) -> u16 {
     (a as u16) + 256 * (b as u16)
@@ -38,7 +13,7 @@ fn size_of(a: u8, b: u8, c: u8) -> usize {
     (a as usize) + 256 * (b as usize) + 65536 * (c as usize)
 }
 
-fn is_right(head: [u8; 8], got: Expected) -> bool {
+fn is_right(head: [u8; 8], got: Numbers) -> bool {
     if got.number != head[0] {
         return false;
     }
@@ -51,7 +26,7 @@ fn is_right(head: [u8; 8], got: Expected) -> bool {
 // The next book, read into all of the part, and run.
 fn is_book_right(head: [u8; 8], part: &mut [u8]) -> bool {
     let n = io::read_full(STDIN_FILENO, part);
-    is_right(head, given(book::read::read(&part[..n])))
+    is_right(head, numbers_of(book::read::read(&part[..n])))
 }
 
 // The next vector, in room for a book that is too long by far.

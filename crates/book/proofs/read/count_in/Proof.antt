@@ -3,7 +3,6 @@
 use Rattle.book.specs.Read.{countIn}
 use borrow.Author.Needs.{needs}
 use borrow.Author.Tests.{eq-eqb, ne-eqb}
-use native.Mathlib.Omega.{arith}
 use Rattle.book.proofs.read.count_in.Statement.{statement}
 use Rattle.book.proofs.read.count_in.Tie as tie
 

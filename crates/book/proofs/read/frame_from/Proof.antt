@@ -1,13 +1,13 @@
 -- `read::frame_from` meets its contract: a cut head is a cut record.
 -- Assumes nothing.
-use Prim.Native.Nat.{ℕ, _+_, _*_}
+use Prim.Native.Nat.{_+_, _*_}
 use Rattle.book.proofs.Frames.{total-fits, head-within, cut-frame, whole-frame, count-is, end-is}
 use Rattle.book.proofs.Layouts.{small-of}
 use Rattle.book.specs.Format.{Small, layoutOf}
 use Rattle.book.specs.Read.{layoutAt, endAt}
 use Rattle.book.specs.declared.format.Layout.{Layout}
 use borrow.Author.Needs.{needs}
-use mathlib.Core.Path.{_≡_, refl, sym, ap, _∙_}
+use mathlib.Core.Path.{_≡_, ap, _∙_}
 use native.Mathlib.Omega.{arith}
 use Rattle.book.proofs.read.frame_from.Statement.{statement}
 use Rattle.book.proofs.read.frame_from.Tie as tie

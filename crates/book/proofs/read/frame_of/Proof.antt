@@ -5,7 +5,7 @@ use Rattle.book.specs.Read.{markAt}
 use Rattle.book.specs.Ready.{frameOf}
 use borrow.Author.Needs.{needs}
 use borrow.Author.Tests.{le-ltb, lt-ltb, eq-eqb, ne-eqb}
-use mathlib.Core.Path.{_≡_, refl, sym, ap, _∙_}
+use mathlib.Core.Path.{sym, ap, _∙_}
 use native.Mathlib.Omega.{arith}
 use Rattle.book.proofs.read.frame_of.Statement.{statement}
 use Rattle.book.proofs.read.frame_of.Tie as tie

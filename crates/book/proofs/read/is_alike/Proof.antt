@@ -1,11 +1,10 @@
 -- `read::is_alike` meets its contract: each way by its law.
 -- Assumes nothing.
-use Prim.Native.Nat.{ℕ}
 use Rattle.book.proofs.Alikes.{no-fields, two-fields, alike-letters, alike-none, alike-second, alike-first}
 use Rattle.book.proofs.Frames.{mark-within, field-within}
 use Rattle.book.specs.Format.{wordAt, markOf}
 use Rattle.book.specs.Read.{totalAt, markAt}
-use mathlib.Core.Path.{_≡_, refl, sym, ap, _∙_}
+use mathlib.Core.Path.{_≡_, sym, ap, _∙_}
 use native.Mathlib.Omega.{arith}
 use Rattle.book.proofs.read.is_alike.Statement.{statement}
 use Rattle.book.proofs.read.is_alike.Tie as tie

@@ -7,7 +7,7 @@ use Rattle.laws.specs.Table.{some}
 use borrow.Author.Needs.{needs}
 use lib.ListN.{getD}
 use mathlib.Core.Bool.{Bool, true, false}
-use mathlib.Core.Path.{_≡_, refl, sym, ap, _∙_}
+use mathlib.Core.Path.{_≡_, refl, sym, _∙_}
 use native.Mathlib.Omega.{arith}
 use Rattle.book.proofs.read.is_repeated.Statement.{statement}
 use Rattle.book.proofs.read.is_repeated.Tie as tie

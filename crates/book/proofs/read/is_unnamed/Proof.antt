@@ -4,7 +4,7 @@ use Rattle.book.proofs.Layouts.{single-in, single-out}
 use Rattle.book.specs.Read.{isUnnamed}
 use borrow.Author.Needs.{needs}
 use borrow.Author.Tests.{eq-eqb, ne-eqb}
-use mathlib.Core.Path.{_≡_, refl, sym, ap, _∙_}
+use mathlib.Core.Path.{sym}
 use native.Mathlib.Omega.{arith}
 use Rattle.book.proofs.read.is_unnamed.Statement.{statement}
 use Rattle.book.proofs.read.is_unnamed.Tie as tie

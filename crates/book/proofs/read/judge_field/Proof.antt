@@ -3,7 +3,7 @@
 use Rattle.book.proofs.Ways.{field-range, field-names, judge-number, judge-plain, judge-name}
 use borrow.Author.Needs.{needs}
 use borrow.Author.Tests.{not-true, not-false}
-use mathlib.Core.Path.{_≡_, refl, sym, ap, _∙_}
+use mathlib.Core.Path.{sym, _∙_}
 use Rattle.book.proofs.read.judge_field.Statement.{statement}
 use Rattle.book.proofs.read.judge_field.Tie as tie
 

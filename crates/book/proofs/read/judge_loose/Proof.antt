@@ -7,7 +7,7 @@ use Rattle.book.specs.Read.{loose, state}
 use borrow.Author.Needs.{needs}
 use lib.ListN.{getD}
 use mathlib.Core.List.{List}
-use mathlib.Core.Path.{_≡_, refl, sym, ap, _∙_}
+use mathlib.Core.Path.{_≡_, refl, sym, _∙_}
 use native.Mathlib.Omega.{arith}
 use Rattle.book.proofs.read.judge_loose.Statement.{statement}
 use Rattle.book.proofs.read.judge_loose.Tie as tie

@@ -2,7 +2,6 @@
 -- Assumes nothing.
 use Rattle.book.specs.Read.{names}
 use borrow.Author.Tests.{eq-eqb, ne-eqb, le-leb, lt-leb}
-use mathlib.Core.Path.{_≡_, refl, sym, ap, _∙_}
 use native.Mathlib.Omega.{arith}
 use Rattle.book.proofs.read.kind_named.Statement.{statement}
 use Rattle.book.proofs.read.kind_named.Tie as tie

@@ -3,7 +3,7 @@
 use Rattle.book.proofs.Endings.{settle-bad, settle-good, step-opens, step-bad, step-settles, opens-count, opens-end}
 use Rattle.book.specs.Read.{state}
 use borrow.Author.Needs.{needs}
-use mathlib.Core.Path.{_≡_, refl, sym, ap, _∙_}
+use mathlib.Core.Path.{sym, _∙_}
 use Rattle.book.proofs.read.read_record.Statement.{statement}
 use Rattle.book.proofs.read.read_record.Tie as tie
 

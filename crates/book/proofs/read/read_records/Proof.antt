@@ -1,11 +1,11 @@
 -- `read::read_records` meets its contract: what is left of the book answers for it all.
 -- Assumes nothing.
-use Prim.Native.Nat.{ℕ, _-_}
+use Prim.Native.Nat.{_-_}
 use Rattle.book.proofs.Going.{Going, none-more, ended, going-bad, going-further, going-on}
 use Rattle.book.specs.Read.{records, state}
 use borrow.Author.Needs.{needs}
 use lib.ListN.{length}
-use mathlib.Core.Path.{_≡_, refl, sym, ap, _∙_}
+use mathlib.Core.Path.{refl, sym, _∙_}
 use native.Mathlib.Omega.{arith}
 use Rattle.book.proofs.read.read_records.Statement.{statement}
 use Rattle.book.proofs.read.read_records.Tie as tie

@@ -1,13 +1,12 @@
 -- `read::refer_to` meets its contract: each way by its law.
 -- Assumes nothing.
-use Prim.Native.Nat.{_+_}
 use Rattle.book.proofs.Frames.{mark-within}
 use Rattle.book.proofs.Ways.{refer-late, refer-other, refer-single, refer-free}
 use Rattle.book.proofs.Layouts.{single-in, single-out}
 use borrow.Author.Needs.{needs}
 use denote.Ref.{now}
 use lib.ListN.{getD}
-use mathlib.Core.Path.{_≡_, refl, sym, ap, _∙_}
+use mathlib.Core.Path.{sym, _∙_}
 use native.Mathlib.Omega.{arith}
 use Rattle.book.proofs.read.refer_to.Statement.{statement}
 use Rattle.book.proofs.read.refer_to.Tie as tie

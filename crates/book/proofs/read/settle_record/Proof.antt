@@ -3,7 +3,7 @@
 use Rattle.book.proofs.Endings.{settle-twice, settle-deep, settle-on}
 use Rattle.book.proofs.Frames.{mark-within}
 use borrow.Author.Needs.{needs}
-use mathlib.Core.Path.{_≡_, refl, sym, ap, _∙_}
+use mathlib.Core.Path.{sym, _∙_}
 use native.Mathlib.Omega.{arith}
 use Rattle.book.proofs.read.settle_record.Statement.{statement}
 use Rattle.book.proofs.read.settle_record.Tie as tie

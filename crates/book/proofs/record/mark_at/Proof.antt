@@ -3,7 +3,7 @@
 use Rattle.book.specs.Format.{markOf}
 use Rattle.book.specs.Read.{markAt}
 use borrow.Author.Needs.{needs}
-use mathlib.Core.Path.{_≡_, refl, sym, ap, _∙_}
+use mathlib.Core.Path.{ap, _∙_}
 use Rattle.book.proofs.record.mark_at.Statement.{statement}
 use Rattle.book.proofs.record.mark_at.Tie as tie
 
