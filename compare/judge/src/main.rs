@@ -1,0 +1,219 @@
+//! What the judges say of one another.
+//!
+//!     judge gate              a few thousand books of each sort
+//!     judge nightly COUNT     COUNT books of each sort
+//!     judge store             writes the original's answers to a sample
+//!     judge vectors COUNT     writes READ's vectors to standard output
+
+mod answers;
+mod demand;
+mod nodes;
+mod robust;
+mod vectors;
+mod work;
+
+use std::collections::HashMap;
+use std::io::Write;
+use std::process::ExitCode;
+
+use gen::{hostile, scoped, systematic, typed, Case};
+use model::book;
+
+/// Where the stored answers and READ's vectors are, from this crate.
+const ANSWERS: &str = concat!(env!("CARGO_MANIFEST_DIR"), "/../answers");
+const VECTORS: &str = concat!(
+    env!("CARGO_MANIFEST_DIR"),
+    "/../../crates/read_vectors/stdin"
+);
+
+/// A comparison of fewer books than this shows too little.
+const LEAST: usize = 2_000;
+
+fn say(line: &str) {
+    println!("judge: {line}");
+}
+
+/// What `judge` says of each of `count` books, or of the first that it finds
+/// at fault, with the book's label.
+fn each<T: Send>(
+    count: usize,
+    case: impl Fn(usize) -> Case + Sync,
+    judge: impl Fn(&Case) -> Result<T, String> + Sync,
+) -> Result<Vec<T>, String> {
+    let answers = work::each(count, |number| {
+        let case = case(number);
+        judge(&case).map_err(|why| format!("{}: {why}", case.label))
+    });
+    answers.into_iter().collect()
+}
+
+fn count<T: PartialEq>(all: &[T], one: T) -> usize {
+    all.iter().filter(|&each| *each == one).count()
+}
+
+fn enough(found: usize, what: &str) -> Result<(), String> {
+    match found >= LEAST {
+        true => Ok(()),
+        false => Err(format!("only {found} {what}")),
+    }
+}
+
+/// The two judges on all systematic books, `some` scoped and `some` typed ones.
+fn compare_nodes(some: usize) -> Result<(), String> {
+    if !original::HERE {
+        say("no checkout of the original is here: only its stored answers were replayed");
+        return Ok(());
+    }
+    if !original::REVISION_MATCHES {
+        return Err("the checkout is not the revision that NOTICE names".to_string());
+    }
+    let systematic = systematic::all();
+    let case = |number: usize| match number.checked_sub(systematic.len()) {
+        None => systematic[number].clone(),
+        Some(past) if past < some => scoped::book(past as u64),
+        Some(past) => typed::book((past - some) as u64),
+    };
+    for symbols in [false, true] {
+        let verdicts = each(systematic.len() + 2 * some, case, |case| {
+            nodes::compare(case, symbols)
+        })?;
+        let limit = count(&verdicts, nodes::Verdict::Limit);
+        let unused =
+            |one: &&nodes::Verdict| matches!(one, nodes::Verdict::Nodes { unused } if *unused > 0);
+        let same = verdicts.len() - limit;
+        say(&format!(
+            "model and original agree on {same} books {} symbols ({} undefined at the same record, {} with an unused power); {limit} beyond the model's limits",
+            if symbols { "with" } else { "without" },
+            count(&verdicts, nodes::Verdict::Undefined),
+            verdicts.iter().filter(unused).count(),
+        ));
+        enough(same, "books compared")?;
+    }
+    Ok(())
+}
+
+/// Demand 3 on all systematic books and `some` typed ones.
+fn try_demand(some: usize) -> Result<(), String> {
+    let systematic = systematic::all();
+    let case = |number: usize| match number.checked_sub(systematic.len()) {
+        None => systematic[number].clone(),
+        Some(past) => typed::book(past as u64),
+    };
+    let verdicts = each(systematic.len() + some, case, demand::agrees)?;
+    let (values, failures) = (
+        count(&verdicts, demand::Verdict::Value),
+        count(&verdicts, demand::Verdict::Failed),
+    );
+    say(&format!(
+        "the lowered run is the source meaning on {} typed books ({values} values, {failures} failures); {} not lowered, {} short of cells or depth, {} at a hash, {} too long",
+        values + failures,
+        count(&verdicts, demand::Verdict::NotLowered),
+        count(&verdicts, demand::Verdict::NoRoom),
+        count(&verdicts, demand::Verdict::Hash),
+        count(&verdicts, demand::Verdict::Long),
+    ));
+    enough(values, "values compared")?;
+    enough(20 * failures, "twentieths of failures compared")
+}
+
+/// Damaged and hostile books on the model alone.
+fn try_robust(some: usize) -> Result<(), String> {
+    let hostile = hostile::all();
+    let case = |number: usize| match number.checked_sub(hostile.len()) {
+        None => hostile[number].clone(),
+        Some(past) => vectors::damaged(past as u64),
+    };
+    let refusals = each(hostile.len() + some, case, robust::ends)?;
+    let mut tally: HashMap<u16, usize> = HashMap::new();
+    for refusal in refusals.into_iter().flatten() {
+        *tally.entry(refusal.number).or_default() += 1;
+    }
+    // A book of 4,097 records is among the hostile ones; the rest is damage's.
+    if let Some(number) = (1..=14).find(|number| !tally.contains_key(number)) {
+        return Err(format!("no damaged or hostile book is refused by {number}"));
+    }
+    say(&format!(
+        "the model answers {} hostile and {some} damaged books in time, with every refusal from 1 to 14",
+        hostile.len()
+    ));
+    Ok(())
+}
+
+/// Every mark occurs in many of the scoped books and many of the typed ones.
+fn count_marks(some: usize) -> Result<(), String> {
+    let case = |number: usize| match number.checked_sub(some) {
+        None => scoped::book(number as u64),
+        Some(past) => typed::book(past as u64),
+    };
+    let books = each(2 * some, case, |case| {
+        book::read(&case.book).map_err(|refusal| format!("READ: {refusal:?}"))
+    })?;
+    let mut least = usize::MAX;
+    for books in books.chunks(some) {
+        let mut tally: HashMap<_, usize> = HashMap::new();
+        for record in books.iter().flat_map(|book| &book.records) {
+            *tally.entry(record.mark).or_default() += 1;
+        }
+        if tally.len() < 37 {
+            return Err(format!("only {} of 37 marks occur", tally.len()));
+        }
+        least = least.min(*tally.values().min().expect("there are marks"));
+    }
+    say(&format!("each of the 37 marks occurs at least {least} times in {some} scoped books, and in {some} typed ones"));
+    Ok(())
+}
+
+fn replay() -> Result<(), String> {
+    let read = |path| std::fs::read(path).map_err(|error| format!("{path}: {error}"));
+    let answers = answers::replay(&read(ANSWERS)?)?;
+    say(&format!(
+        "the model gives the original's {answers} stored answers"
+    ));
+    let vectors = vectors::replay(&read(VECTORS)?)?;
+    say(&format!("the model's READ gives {vectors} stored vectors"));
+    Ok(())
+}
+
+fn judge(some: usize) -> Result<(), String> {
+    replay()?;
+    count_marks(some.min(5_000))?;
+    compare_nodes(some)?;
+    try_demand(some)?;
+    try_robust(some)
+}
+
+fn store() -> Result<(), String> {
+    if !original::HERE || !original::REVISION_MATCHES {
+        return Err("no checkout of the revision that NOTICE names".to_string());
+    }
+    std::fs::write(ANSWERS, answers::write()).map_err(|error| format!("{ANSWERS}: {error}"))
+}
+
+fn write_vectors(some: usize) -> Result<(), String> {
+    let mut out = std::io::stdout();
+    out.write_all(&vectors::write(some))
+        .map_err(|error| error.to_string())
+}
+
+fn main() -> ExitCode {
+    let words: Vec<String> = std::env::args().skip(1).collect();
+    let words: Vec<&str> = words.iter().map(String::as_str).collect();
+    let number = |word: &str| {
+        word.parse::<usize>()
+            .map_err(|_| format!("{word} is no number"))
+    };
+    let done = match words[..] {
+        ["gate"] => judge(4_000),
+        ["nightly", some] => number(some).and_then(judge),
+        ["store"] => store(),
+        ["vectors", some] => number(some).and_then(write_vectors),
+        _ => Err("usage: judge gate | nightly COUNT | store | vectors COUNT".to_string()),
+    };
+    match done {
+        Ok(()) => ExitCode::SUCCESS,
+        Err(why) => {
+            eprintln!("judge: {why}");
+            ExitCode::FAILURE
+        }
+    }
+}

@@ -1,0 +1,67 @@
+//! READ's vectors: those that the project keeps, and new ones for its program.
+//!
+//! A vector: number (1 byte), place (2), count (2), length of the book (3), the
+//! book; low byte first.
+
+use gen::{damage, hostile, scoped, typed, Case};
+use model::book;
+
+/// Number, place and count of the model's READ.
+fn answer(bytes: &[u8]) -> (u8, u16, u16) {
+    match book::read(bytes) {
+        Ok(book) => (0, 0, book.records.len() as u16),
+        Err(refusal) => (refusal.number as u8, refusal.place, 0),
+    }
+}
+
+/// The model against vectors: how many there are.
+pub fn replay(mut vectors: &[u8]) -> Result<usize, String> {
+    let mut count = 0;
+    while !vectors.is_empty() {
+        let head = vectors.get(..8).ok_or("the vectors are cut")?;
+        let expected = (
+            head[0],
+            u16::from_le_bytes([head[1], head[2]]),
+            u16::from_le_bytes([head[3], head[4]]),
+        );
+        let end = 8 + u32::from_le_bytes([head[5], head[6], head[7], 0]) as usize;
+        let book = vectors.get(8..end).ok_or("the vectors are cut")?;
+        if answer(book) != expected {
+            return Err(format!(
+                "vector {count}: {:?}, not {expected:?}",
+                answer(book)
+            ));
+        }
+        vectors = &vectors[end..];
+        count += 1;
+    }
+    Ok(count)
+}
+
+/// A damaged book: moved and struck in turn.
+pub fn damaged(seed: u64) -> Case {
+    let whole = match seed % 4 < 2 {
+        true => scoped::book(seed),
+        false => typed::book(seed),
+    };
+    match seed % 2 {
+        0 => damage::moved(&whole, seed),
+        _ => damage::struck(&whole, seed),
+    }
+}
+
+/// The model's answers to `count` damaged books and to every hostile one.
+pub fn write(count: usize) -> Vec<u8> {
+    let mut cases = hostile::all();
+    cases.extend((0..count as u64).map(damaged));
+    let mut vectors = Vec::new();
+    for case in cases {
+        let (number, place, records) = answer(&case.book);
+        vectors.push(number);
+        vectors.extend(place.to_le_bytes());
+        vectors.extend(records.to_le_bytes());
+        vectors.extend(&(case.book.len() as u32).to_le_bytes()[..3]);
+        vectors.extend(&case.book);
+    }
+    vectors
+}
