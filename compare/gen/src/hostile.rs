@@ -12,6 +12,7 @@ pub fn all() -> Vec<Case> {
         last_of_shared_patterns(250),
         wide_patterns(),
         doubling_calls(80),
+        copied_bindings(),
         doubling_folds(100),
         doubled_values(250),
         full_scope(),
@@ -103,6 +104,28 @@ fn doubling_calls(depth: usize) -> Case {
         body = writer.tuple_expression(&[a, b]);
     }
     Case::plain(format!("doubling calls {depth}"), &writer)
+}
+
+/// The same, and each copy binds three thousand names.
+fn copied_bindings() -> Case {
+    let mut writer = Writer::new();
+    let unit = writer.unit();
+    let names: Vec<Id> = (0..3_000).map(|name| writer.name_pattern(name)).collect();
+    let rows: Vec<Id> = names
+        .chunks(250)
+        .map(|row| writer.row_pattern(row))
+        .collect();
+    let pattern = writer.row_pattern(&rows);
+    let mut body = writer.unit_expression();
+    for _ in 0..60 {
+        let function = writer.function(&[], body);
+        let calls = [(), ()].map(|()| writer.record("cf", &[unit, function, 0]));
+        let bound = writer.unit_expression();
+        let assign = writer.record("sa", &[pattern, bound]);
+        let statements = [writer.record("se", &[calls[0]]), assign];
+        body = writer.block(&statements, calls[1]);
+    }
+    Case::plain("copied bindings".to_string(), &writer)
 }
 
 /// Functions that each fold an array of two with the one before.

@@ -7,7 +7,7 @@ use crate::Case;
 
 /// Every systematic book.
 pub fn all() -> Vec<Case> {
-    let mut cases = Vec::new();
+    let mut cases = vec![listing()];
     for n in 0..=256 {
         cases.push(row(n));
         cases.push(row_pattern(n));
@@ -42,6 +42,19 @@ pub fn all() -> Vec<Case> {
         cases.extend(CALLS.iter().map(|mark| call(mark, symbol)));
     }
     cases
+}
+
+/// The book of document 01, "One listing whole".
+fn listing() -> Case {
+    let mut writer = Writer::new();
+    let bit = writer.bit();
+    let value = writer.word_value(1, 1);
+    let pattern = writer.name_pattern(7);
+    let e = writer.constant(value);
+    let assign = writer.record("sa", &[pattern, e]);
+    let end = writer.variable(bit, 7);
+    writer.block(&[assign], end);
+    Case::plain("the listing".to_string(), &writer)
 }
 
 /// A byte that tells its place.

@@ -32,7 +32,7 @@ fn sample() -> Vec<Case> {
     cases
 }
 
-/// The original's answers to the sample.
+/// The original's answers to the sample: the same at any time.
 pub fn write() -> Vec<u8> {
     let mut stored = Vec::new();
     for case in sample() {

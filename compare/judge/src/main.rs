@@ -16,7 +16,7 @@ use std::collections::HashMap;
 use std::io::Write;
 use std::process::ExitCode;
 
-use gen::{hostile, scoped, systematic, typed, Case};
+use gen::{damage, hostile, scoped, systematic, typed, Case};
 use model::book;
 
 /// Where the stored answers and READ's vectors are, from this crate.
@@ -58,38 +58,39 @@ fn enough(found: usize, what: &str) -> Result<(), String> {
     }
 }
 
-/// The two judges on all systematic books, `some` scoped and `some` typed ones.
+/// The two judges on all systematic books, and on `some` each of scoped, typed
+/// and moved ones.
 fn compare_nodes(some: usize) -> Result<(), String> {
-    if !original::HERE {
-        say("no checkout of the original is here: only its stored answers were replayed");
-        return Ok(());
-    }
-    if !original::REVISION_MATCHES {
-        return Err("the checkout is not the revision that NOTICE names".to_string());
-    }
     let systematic = systematic::all();
     let case = |number: usize| match number.checked_sub(systematic.len()) {
         None => systematic[number].clone(),
-        Some(past) if past < some => scoped::book(past as u64),
-        Some(past) => typed::book((past - some) as u64),
+        Some(past) => match ((past / 3) as u64, past % 3) {
+            (seed, 0) => scoped::book(seed),
+            (seed, 1) => typed::book(seed),
+            (seed, _) => damage::moved(&scoped::book(seed), seed),
+        },
     };
     for symbols in [false, true] {
-        let verdicts = each(systematic.len() + 2 * some, case, |case| {
+        let verdicts = each(systematic.len() + 3 * some, case, |case| {
             nodes::compare(case, symbols)
         })?;
-        let limit = count(&verdicts, nodes::Verdict::Limit);
-        let unused =
-            |one: &&nodes::Verdict| matches!(one, nodes::Verdict::Nodes { unused } if *unused > 0);
-        let same = verdicts.len() - limit;
-        say(&format!(
-            "model and original agree on {same} books {} symbols ({} undefined at the same record, {} with an unused power); {limit} beyond the model's limits",
-            if symbols { "with" } else { "without" },
-            count(&verdicts, nodes::Verdict::Undefined),
-            verdicts.iter().filter(unused).count(),
-        ));
-        enough(same, "books compared")?;
+        tell_nodes(&verdicts, symbols)?;
     }
     Ok(())
+}
+
+fn tell_nodes(verdicts: &[nodes::Verdict], symbols: bool) -> Result<(), String> {
+    let unused = |verdict: &&nodes::Verdict| matches!(verdict, nodes::Verdict::Nodes { unused } if *unused > 0);
+    let limit = count(verdicts, nodes::Verdict::Limit);
+    let not_read = count(verdicts, nodes::Verdict::NotRead);
+    let same = verdicts.len() - limit - not_read;
+    say(&format!(
+        "model and original agree on {same} books {} symbols ({} undefined at the same record, {} with an unused power); {limit} beyond the model's limits, {not_read} damaged beyond READ",
+        if symbols { "with" } else { "without" },
+        count(verdicts, nodes::Verdict::Undefined),
+        verdicts.iter().filter(unused).count(),
+    ));
+    enough(same, "books compared")
 }
 
 /// Demand 3 on all systematic books and `some` typed ones.
@@ -175,9 +176,18 @@ fn replay() -> Result<(), String> {
 }
 
 fn judge(some: usize) -> Result<(), String> {
+    match (original::HERE, original::REVISION_MATCHES) {
+        (true, true) => say("the original's text is here, as NOTICE names it"),
+        (true, false) => {
+            return Err("the checkout is not the revision that NOTICE names".to_string())
+        }
+        _ => say("no checkout of the original is here: its stored answers are replayed instead"),
+    }
     replay()?;
     count_marks(some.min(5_000))?;
-    compare_nodes(some)?;
+    if original::HERE {
+        compare_nodes(some)?;
+    }
     try_demand(some)?;
     try_robust(some)
 }

@@ -17,11 +17,15 @@ pub enum Verdict {
     Undefined,
     /// The model's own limits, which the original does not have: 11, 12.
     Limit,
+    /// READ refuses it: some damaged books are none.
+    NotRead,
 }
 
 /// The two judges on one book, or how they differ.
 pub fn compare(case: &Case, symbols: bool) -> Result<Verdict, String> {
-    let book = book::read(&case.book).map_err(|refusal| format!("READ: {refusal:?}"))?;
+    let Ok(book) = book::read(&case.book) else {
+        return Ok(Verdict::NotRead);
+    };
     let ours = trace(&book, symbols, ROOM);
     if matches!(ours, Err(refusal) if refusal.number != 10) {
         return Ok(Verdict::Limit);

@@ -165,7 +165,7 @@ impl<'a> Lowering<'a> {
         for (statement, node) in statements.iter().zip(begun).rev() {
             rest = self.end(*statement, node, rest)?;
         }
-        scope.back_to(mark);
+        scope.back_to(&self.patterns, mark);
         Ok(rest)
     }
 
@@ -175,7 +175,7 @@ impl<'a> Lowering<'a> {
             return self.expression(record.fields[0], scope);
         }
         let value = self.expression(record.fields[1], scope)?;
-        bind(s, record.fields[0], scope)?;
+        self.bind(s, record.fields[0], scope)?;
         let mut pen = self.at(s);
         let old = pen.iden()?;
         pen.pair(value, old)
@@ -192,11 +192,19 @@ impl<'a> Lowering<'a> {
         pen.comp(both, second)
     }
 
+    /// A binding in the name of the record that makes it.
+    fn bind(&self, r: u16, pattern: u16, scope: &mut Scope) -> Result<(), Refusal> {
+        match scope.bind(&self.patterns, pattern) {
+            true => Ok(()),
+            false => Err(Refusal::new(12, usize::from(r))),
+        }
+    }
+
     fn arm(&mut self, r: u16, pattern: u16, e: u16, scope: &mut Scope) -> Answer {
         let mark = scope.mark();
-        bind(r, pattern, scope)?;
+        self.bind(r, pattern, scope)?;
         let node = self.expression(e, scope)?;
-        scope.back_to(mark);
+        scope.back_to(&self.patterns, mark);
         Ok(node)
     }
 
@@ -278,14 +286,6 @@ impl<'a> Lowering<'a> {
     fn function(&mut self, f: u16) -> Answer {
         let body = *self.record(f).fields.last().expect("a function has a body");
         self.expression(body, &mut Scope::function(f))
-    }
-}
-
-/// A binding in the name of the record that makes it.
-fn bind(r: u16, pattern: u16, scope: &mut Scope) -> Result<(), Refusal> {
-    match scope.bind(pattern) {
-        true => Ok(()),
-        false => Err(Refusal::new(12, usize::from(r))),
     }
 }
 
