@@ -1,6 +1,6 @@
 //! What the judges say of one another.
 //!
-//!     judge gate              a few thousand books of each sort
+//!     judge gate [FILE]...    a few thousand books of each sort, and these
 //!     judge nightly COUNT     COUNT books of each sort
 //!     judge store             writes the original's answers to a sample
 //!     judge vectors COUNT     writes READ's vectors to standard output
@@ -58,12 +58,12 @@ fn enough(found: usize, what: &str) -> Result<(), String> {
     }
 }
 
-/// The two judges on all systematic books, and on `some` each of scoped, typed
-/// and moved ones.
-fn compare_nodes(some: usize) -> Result<(), String> {
-    let systematic = systematic::all();
-    let case = |number: usize| match number.checked_sub(systematic.len()) {
-        None => systematic[number].clone(),
+/// The two judges on `given` books, on all systematic ones, and on `some` each
+/// of scoped, typed and moved ones.
+fn compare_nodes(given: Vec<Case>, some: usize) -> Result<(), String> {
+    let fixed = [given, systematic::all()].concat();
+    let case = |number: usize| match number.checked_sub(fixed.len()) {
+        None => fixed[number].clone(),
         Some(past) => match ((past / 3) as u64, past % 3) {
             (seed, 0) => scoped::book(seed),
             (seed, 1) => typed::book(seed),
@@ -71,7 +71,7 @@ fn compare_nodes(some: usize) -> Result<(), String> {
         },
     };
     for symbols in [false, true] {
-        let verdicts = each(systematic.len() + 3 * some, case, |case| {
+        let verdicts = each(fixed.len() + 3 * some, case, |case| {
             nodes::compare(case, symbols)
         })?;
         tell_nodes(&verdicts, symbols)?;
@@ -175,7 +175,22 @@ fn replay() -> Result<(), String> {
     Ok(())
 }
 
-fn judge(some: usize) -> Result<(), String> {
+/// Books from files.
+fn given(paths: &[&str]) -> Result<Vec<Case>, String> {
+    let one = |path: &&str| {
+        let book = std::fs::read(path).map_err(|error| format!("{path}: {error}"))?;
+        book::read(&book).map_err(|refusal| format!("{path}: {refusal:?}"))?;
+        Ok(Case {
+            label: path.to_string(),
+            book,
+            witnesses: Vec::new(),
+        })
+    };
+    paths.iter().map(one).collect()
+}
+
+fn judge(paths: &[&str], some: usize) -> Result<(), String> {
+    let given = given(paths)?;
     match (original::HERE, original::REVISION_MATCHES) {
         (true, true) => say("the original's text is here, as NOTICE names it"),
         (true, false) => {
@@ -186,7 +201,7 @@ fn judge(some: usize) -> Result<(), String> {
     replay()?;
     count_marks(some.min(5_000))?;
     if original::HERE {
-        compare_nodes(some)?;
+        compare_nodes(given, some)?;
     }
     try_demand(some)?;
     try_robust(some)
@@ -213,11 +228,11 @@ fn main() -> ExitCode {
             .map_err(|_| format!("{word} is no number"))
     };
     let done = match words[..] {
-        ["gate"] => judge(4_000),
-        ["nightly", some] => number(some).and_then(judge),
+        ["gate", ref paths @ ..] => judge(paths, 4_000),
+        ["nightly", some] => number(some).and_then(|some| judge(&[], some)),
         ["store"] => store(),
         ["vectors", some] => number(some).and_then(write_vectors),
-        _ => Err("usage: judge gate | nightly COUNT | store | vectors COUNT".to_string()),
+        _ => Err("usage: judge gate [FILE]... | nightly COUNT | store | vectors COUNT".to_string()),
     };
     match done {
         Ok(()) => ExitCode::SUCCESS,
