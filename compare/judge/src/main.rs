@@ -26,8 +26,9 @@ const VECTORS: &str = concat!(
     "/../../crates/read_vectors/stdin"
 );
 
-/// A comparison of fewer books than this shows too little.
-const LEAST: usize = 2_000;
+/// A comparison of fewer books, or with fewer failures, shows too little.
+const BOOKS: usize = 2_000;
+const FAILURES: usize = 200;
 
 fn say(line: &str) {
     println!("judge: {line}");
@@ -51,8 +52,8 @@ fn count<T: PartialEq>(all: &[T], one: T) -> usize {
     all.iter().filter(|&each| *each == one).count()
 }
 
-fn enough(found: usize, what: &str) -> Result<(), String> {
-    match found >= LEAST {
+fn enough(found: usize, least: usize, what: &str) -> Result<(), String> {
+    match found >= least {
         true => Ok(()),
         false => Err(format!("only {found} {what}")),
     }
@@ -90,7 +91,7 @@ fn tell_nodes(verdicts: &[nodes::Verdict], symbols: bool) -> Result<(), String> 
         count(verdicts, nodes::Verdict::Undefined),
         verdicts.iter().filter(unused).count(),
     ));
-    enough(same, "books compared")
+    enough(same, BOOKS, "books compared")
 }
 
 /// Demand 3 on all systematic books and `some` typed ones.
@@ -113,8 +114,8 @@ fn try_demand(some: usize) -> Result<(), String> {
         count(&verdicts, demand::Verdict::Hash),
         count(&verdicts, demand::Verdict::Long),
     ));
-    enough(values, "values compared")?;
-    enough(20 * failures, "twentieths of failures compared")
+    enough(values, BOOKS, "values compared")?;
+    enough(failures, FAILURES, "failures compared")
 }
 
 /// Damaged and hostile books on the model alone.

@@ -12,13 +12,16 @@ pub struct Parameters;
 #[derive(Clone, Debug, Default, PartialEq, Eq)]
 pub struct WitnessTypes;
 
-/// The value of each parameter: a book's constants are some of them.
-#[derive(Clone, Debug, Default)]
-pub struct Arguments(Arc<HashMap<TemplateProgramWitness, Value>>);
+/// The value of each parameter, by the record that is one: every other constant of a book.
+#[derive(Clone, Debug)]
+pub struct Arguments {
+    values: Arc<HashMap<u16, Value>>,
+}
 
-impl From<HashMap<TemplateProgramWitness, Value>> for Arguments {
-    fn from(map: HashMap<TemplateProgramWitness, Value>) -> Arguments {
-        Arguments(Arc::new(map))
+impl Arguments {
+    pub fn new(values: HashMap<u16, Value>) -> Arguments {
+        let values = Arc::new(values);
+        Arguments { values }
     }
 }
 
@@ -28,6 +31,6 @@ pub trait WitnessNameToValueMap {
 
 impl WitnessNameToValueMap for Arguments {
     fn get(&self, name: &TemplateProgramWitness) -> Option<&Value> {
-        self.0.get(name)
+        self.values.get(&name.number())
     }
 }

@@ -48,7 +48,7 @@ struct Builder<'a> {
     hinter: &'a dyn JetHinter,
     parts: Vec<Part>,
     tracker: CallTracker,
-    arguments: HashMap<TemplateProgramWitness, Value>,
+    arguments: HashMap<u16, Value>,
     legend: Legend,
 }
 
@@ -97,7 +97,7 @@ impl Program {
         };
         Made {
             program,
-            arguments: builder.arguments.into(),
+            arguments: Arguments::new(builder.arguments),
             legend: builder.legend,
         }
     }
@@ -284,9 +284,8 @@ impl Builder<'_> {
         let fields = &record.fields[..];
         match &record.mark {
             b"ec" if record.other_form() => {
-                let name = TemplateProgramWitness::new(record.number);
-                self.arguments.insert(name.clone(), self.value(fields[1]));
-                Single::Parameter(name)
+                self.arguments.insert(record.number, self.value(fields[1]));
+                Single::Parameter(TemplateProgramWitness::new(record.number))
             }
             b"ec" => Single::Constant(self.value(fields[1])),
             b"ew" => Single::Witness(TemplateProgramWitness::new(fields[1])),
