@@ -93,8 +93,6 @@ fn one(
             }
             Ok(Verdict::Value)
         }
-        // Where the source reaches a hash, the lowered program may fail first.
-        (Some(Ok(Outcome::Failed)), None) => Ok(Verdict::Hash),
         (Some(Ok(Outcome::Failed)), _) => Err("RUN fails, the source does not".to_string()),
         (Some(Ok(Outcome::Value { .. })), _) => {
             Err("RUN gives a value, the source does not".to_string())

@@ -48,6 +48,14 @@ fn each<T: Send>(
     answers.into_iter().collect()
 }
 
+/// The book of a number: `fixed` ones first, then those that `more` makes.
+fn book_of(fixed: &[Case], number: usize, more: impl Fn(usize) -> Case) -> Case {
+    match number.checked_sub(fixed.len()) {
+        None => fixed[number].clone(),
+        Some(past) => more(past),
+    }
+}
+
 fn count<T: PartialEq>(all: &[T], one: T) -> usize {
     all.iter().filter(|&each| *each == one).count()
 }
@@ -63,14 +71,12 @@ fn enough(found: usize, least: usize, what: &str) -> Result<(), String> {
 /// of scoped, typed and moved ones.
 fn compare_nodes(given: Vec<Case>, some: usize) -> Result<(), String> {
     let fixed = [given, systematic::all()].concat();
-    let case = |number: usize| match number.checked_sub(fixed.len()) {
-        None => fixed[number].clone(),
-        Some(past) => match ((past / 3) as u64, past % 3) {
-            (seed, 0) => scoped::book(seed),
-            (seed, 1) => typed::book(seed),
-            (seed, _) => damage::moved(&scoped::book(seed), seed),
-        },
+    let more = |past: usize| match ((past / 3) as u64, past % 3) {
+        (seed, 0) => scoped::book(seed),
+        (seed, 1) => typed::book(seed),
+        (seed, _) => damage::moved(&scoped::book(seed), seed),
     };
+    let case = |number| book_of(&fixed, number, more);
     for symbols in [false, true] {
         let verdicts = each(fixed.len() + 3 * some, case, |case| {
             nodes::compare(case, symbols)
@@ -97,10 +103,7 @@ fn tell_nodes(verdicts: &[nodes::Verdict], symbols: bool) -> Result<(), String> 
 /// Demand 3 on all systematic books and `some` typed ones.
 fn try_demand(some: usize) -> Result<(), String> {
     let systematic = systematic::all();
-    let case = |number: usize| match number.checked_sub(systematic.len()) {
-        None => systematic[number].clone(),
-        Some(past) => typed::book(past as u64),
-    };
+    let case = |number| book_of(&systematic, number, |past| typed::book(past as u64));
     let verdicts = each(systematic.len() + some, case, demand::agrees)?;
     let (values, failures) = (
         count(&verdicts, demand::Verdict::Value),
@@ -121,22 +124,20 @@ fn try_demand(some: usize) -> Result<(), String> {
 /// Damaged and hostile books on the model alone.
 fn try_robust(some: usize) -> Result<(), String> {
     let hostile = hostile::all();
-    let case = |number: usize| match number.checked_sub(hostile.len()) {
-        None => hostile[number].clone(),
-        Some(past) => vectors::damaged(past as u64),
+    let case = |number| book_of(&hostile, number, |past| vectors::damaged(past as u64));
+    let ends = each(hostile.len() + some, case, robust::ends)?;
+    let refused = |number: &u16| {
+        let mut refusals = ends.iter().flat_map(|(refusals, _)| refusals);
+        refusals.any(|refusal| refusal.number == *number)
     };
-    let refusals = each(hostile.len() + some, case, robust::ends)?;
-    let mut tally: HashMap<u16, usize> = HashMap::new();
-    for refusal in refusals.into_iter().flatten() {
-        *tally.entry(refusal.number).or_default() += 1;
-    }
-    // A book of 4,097 records is among the hostile ones; the rest is damage's.
-    if let Some(number) = (1..=14).find(|number| !tally.contains_key(number)) {
+    if let Some(number) = (1..=14).find(|number| !refused(number)) {
         return Err(format!("no damaged or hostile book is refused by {number}"));
     }
+    let longest = ends.iter().map(|(_, spent)| spent.as_millis()).max();
     say(&format!(
-        "the model answers {} hostile and {some} damaged books in time, with every refusal from 1 to 14",
-        hostile.len()
+        "the model answers {} hostile and {some} damaged books, with every refusal from 1 to 14; the dearest takes {} ms",
+        hostile.len(),
+        longest.unwrap_or(0),
     ));
     Ok(())
 }

@@ -8,8 +8,9 @@ use model::lower::lower;
 use model::run::run_within;
 use model::{book, check, Refusal};
 
-/// How long the dearest book may take.
-const TIME: Duration = Duration::from_secs(4);
+/// No book hangs. The limit is wide, so that a busy machine does not fail a
+/// test; how long the dearest book took is reported.
+const TIME: Duration = Duration::from_secs(60);
 
 /// A table that holds something before it is lent.
 fn lent(length: usize) -> Vec<u8> {
@@ -23,8 +24,9 @@ fn zeros(table: &[u8], what: &str) -> Result<(), String> {
     }
 }
 
-/// READ, CHECK, LOWER and RUN on one book: the refusals of CHECK and LOWER.
-pub fn ends(case: &Case) -> Result<Vec<Refusal>, String> {
+/// READ, CHECK, LOWER and RUN on one book: the refusals of CHECK and LOWER, and
+/// how long it took.
+pub fn ends(case: &Case) -> Result<(Vec<Refusal>, Duration), String> {
     let began = Instant::now();
     let read = book::read(&case.book).err();
     let mut refusals = Vec::from_iter(check::check(&case.book).err());
@@ -36,7 +38,7 @@ pub fn ends(case: &Case) -> Result<Vec<Refusal>, String> {
     }
     match began.elapsed() {
         spent if spent > TIME => Err(format!("took {} ms", spent.as_millis())),
-        _ => Ok(refusals),
+        spent => Ok((refusals, spent)),
     }
 }
 

@@ -72,11 +72,12 @@ fn trials(book: &book::Book) -> Vec<Trial> {
     trials
 }
 
-/// Whether the mutant lowers the book otherwise, be it that it panics.
+/// Whether the mutant gives another answer. A panic is none: it would be seen
+/// without any judge.
 fn differs(mutant: &Mutant, book: &book::Book, trials: &[Trial]) -> bool {
     trials.iter().any(|trial| {
         let lower = || (mutant.lower)(book, trial.symbols, trial.room);
-        panic::catch_unwind(lower).ok().as_ref() != Some(&trial.right)
+        panic::catch_unwind(lower).is_ok_and(|wrong| wrong != trial.right)
     })
 }
 
@@ -110,7 +111,7 @@ fn survivors() -> Vec<&'static Mutant> {
 }
 
 fn main() -> ExitCode {
-    // A mutant's panic is an answer, and not worth a message.
+    // A mutant's panic counts for nothing, and is not worth a message.
     panic::set_hook(Box::new(|_| ()));
     let thread = std::thread::Builder::new()
         .stack_size(256 << 20)

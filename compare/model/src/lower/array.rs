@@ -7,7 +7,8 @@ pub enum Side {
     Right,
 }
 
-/// How many of a row of `n`, 2 or more, lie on the left.
+/// How many of a row of `n`, 2 or more, lie on the left. CHECK and the source
+/// meaning have one of their own, so that a fault here cannot hide in both.
 pub fn split(n: usize) -> usize {
     let power = n.next_power_of_two();
     n - power / 2
