@@ -37,3 +37,18 @@ module _ {A B : Type 0} (R : A → B → Type 0) where
 pub each-map : {A B : Type 0} (h : A → B) (xs : List A) → Each (λ x y. h x ≡ y) xs (map h xs)
 each-map h [] = tt
 each-map h (x ∷ xs) = (refl, each-map h xs)
+
+-- images, of a row and of its parts
+pub map-length : {A B : Type 0} (h : A → B) (xs : List A) → length (map h xs) ≡ length xs
+map-length h [] = refl
+map-length h (x ∷ xs) = ap suc (map-length h xs)
+
+pub map-take : {A B : Type 0} (h : A → B) (n : ℕ) (xs : List A) → take n (map h xs) ≡ map h (take n xs)
+map-take h zero xs = refl
+map-take h (suc n) [] = refl
+map-take h (suc n) (x ∷ xs) = ap (_∷_ (h x)) (map-take h n xs)
+
+pub map-drop : {A B : Type 0} (h : A → B) (n : ℕ) (xs : List A) → drop n (map h xs) ≡ map h (drop n xs)
+map-drop h zero xs = refl
+map-drop h (suc n) [] = refl
+map-drop h (suc n) (x ∷ xs) = map-drop h n xs

@@ -1,0 +1,4 @@
+pub mod Trace
+pub mod Combinators
+pub mod Cut
+pub mod Draws
