@@ -18,6 +18,7 @@ pub mod Names
 pub mod Picks
 pub mod Reached
 pub mod Roles
+pub mod Standing
 pub mod Tiles
 pub mod Types
 pub mod Unlike

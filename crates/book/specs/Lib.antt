@@ -4,5 +4,6 @@ pub mod Read
 pub mod Index
 pub mod Ready
 pub mod Valid
+pub mod Stands
 pub mod Tree
 pub mod Listing

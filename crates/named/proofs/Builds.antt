@@ -62,15 +62,15 @@ module _ (r l g n k : ℕ) {t : List ℕ} {p : Pen} where
 
 -- rows of nodes: none, one, and two parts
 module _ (r kind : ℕ) where
-  joins-none : joins r kind [] ≡ unit r
+  pub joins-none : joins r kind [] ≡ unit r
   unfolding joins
   joins-none = row-none (unit r) (joined (emit r kind))
 
-  joins-one : (x : ℕ) → joins r kind (x ∷ []) ≡ pure x
+  pub joins-one : (x : ℕ) → joins r kind (x ∷ []) ≡ pure x
   unfolding joins
   joins-one x = row-one (unit r) (joined (emit r kind)) (pure x)
 
-  joins-step : (xs : List ℕ) → 2 ≤ length xs → joins r kind xs ≡ joined (emit r kind) (joins r kind (take (splitOf (length xs)) xs)) (joins r kind (drop (splitOf (length xs)) xs))
+  pub joins-step : (xs : List ℕ) → 2 ≤ length xs → joins r kind xs ≡ joined (emit r kind) (joins r kind (take (splitOf (length xs)) xs)) (joins r kind (drop (splitOf (length xs)) xs))
   unfolding joins
   joins-step xs h =
       rw (row-step (unit r) (joined (emit r kind)) (map pure xs) (rw map-length h), map-length, map-take, map-drop)
@@ -85,10 +85,10 @@ drop-of-take (suc c) (suc n) (x ∷ xs) h = let e : suc n - suc c ≡ n - c = om
 abbrev pub part : ℕ → ℕ → List ℕ → List ℕ
 part from n xs = take n (drop from xs)
 
-part-length : (from n : ℕ) (xs : List ℕ) → from + n ≤ length xs → length (part from n xs) ≡ n
+pub part-length : (from n : ℕ) (xs : List ℕ) → from + n ≤ length xs → length (part from n xs) ≡ n
 part-length from n xs h = simp (length-take, length-drop) (omega arith)
 
-part-drop : (from n c : ℕ) (xs : List ℕ) → c ≤ n → drop c (part from n xs) ≡ part (from + c) (n - c) xs
+pub part-drop : (from n c : ℕ) (xs : List ℕ) → c ≤ n → drop c (part from n xs) ≡ part (from + c) (n - c) xs
 part-drop from n c xs h = drop-of-take c n (drop from xs) h ∙ ap (take (n - c)) (drop-drop c from xs)
 
 module _ (r kind from : ℕ) (xs : List ℕ) {t : List ℕ} {p : Pen} where

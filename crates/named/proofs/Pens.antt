@@ -60,6 +60,24 @@ module _ {A B : Type 0} {t : List ℕ} {c : ℕ} {m : Run A} (k : A → Run B) w
   unfolding bind
   stops {w = w} e = record { is = cut-stop k (m c) (room (length t) - c) c w (e .is) }
 
+stop-stops : {A : Type 0} (t : List ℕ) (c r : ℕ) (s : Stop) → Stops {A = A} t c (stop s r) (refusal (faultOf s) r)
+unfolding stop cut
+stop-stops t c r s = record { is = refl }
+
+-- a run gives a result or stops
+settle : {A P : Type 0} (t : List ℕ) (c : ℕ) (m : Run A) → ((a : A) (u : ℕ) (t₁ : List ℕ) → Gives t c m a u t₁ → P) → ((w : Refusal) → Stops t c m w → P) → P
+settle {A} {P} t c m f g = go (comes t c m) refl
+  where
+    go : (o : Out A) → comes t c m ≡ o → P
+    go (made a xs) e = f a (c + length xs) (stored t c xs) (record { nodes = xs; is = e; next = refl; table = refl })
+    go (refused w) e = g w (record { is = e })
+
+-- what ends in a stop gives no result
+pub never-gives : {A B : Type 0} (m : Run A) (s : Stop) (r : ℕ) {t t′ : List ℕ} {c u : ℕ} {a : B} → Gives t c (bind m (λ x. stop s r)) a u t′ → ⊥
+never-gives m s r {t} {t′} {c} g = settle t c m
+    (λ b v t₁ h. never (sym (g .is) ∙ gives-stop (λ x. stop s r) h (stop-stops t₁ v r s) .is))
+    (λ w h. never (sym (g .is) ∙ stops (λ x. stop s r) h .is))
+
 pub gives-pure : {A : Type 0} (t : List ℕ) (c : ℕ) (a : A) → Gives t c (pure a) a c t
 unfolding pure cut stored encode
 gives-pure t c a = record { nodes = []; is = refl; next = sym (add-zero c); table = refl }
@@ -144,8 +162,8 @@ unfolding Fate
 done-pure t c a = record { kept = refl; fate = gives-pure t c a }
 
 pub done-stop : (t : List ℕ) (c r : ℕ) (s : Stop) → Done t c (stop s r) (answers.Refused (refusal (faultOf s) r)) t
-unfolding Fate stop cut
-done-stop t c r s = record { kept = refl; fate = record { is = refl } }
+unfolding Fate
+done-stop t c r s = record { kept = refl; fate = stop-stops t c r s }
 
 -- several nodes
 module _ {t : List ℕ} {c : ℕ} where
@@ -166,6 +184,11 @@ module _ {t : List ℕ} {c : ℕ} where
   pub fill-halt : {m : Run ℕ} (n : Run (List ℕ)) {t₁ : List ℕ} {w : Refusal} {s : Stored} (xs : List ℕ) → Done t c m s t₁ → s ≡ answers.Refused w → Fills t c (bind m (λ x. bind n (λ ys. pure (x ∷ ys)))) (fillings.Refused w) xs t₁
   unfolding Fate FateAll
   fill-halt n xs p e = record { kept = p .kept; fate = stops (λ x. bind n (λ ys. pure (x ∷ ys))) (rw e at (p .fate)) }
+
+-- of a refusal the row says nothing
+pub fill-any : {t t′ : List ℕ} {c : ℕ} {m : Run (List ℕ)} {w : Refusal} {xs : List ℕ} (ys : List ℕ) → Fills t c m (fillings.Refused w) xs t′ → Fills t c m (fillings.Refused w) ys t′
+unfolding FateAll
+fill-any ys p = record { kept = p .kept; fate = p .fate }
 
 -- several nodes, and then the rest
 module _ (k : List ℕ → Run ℕ) {m : Run (List ℕ)} {t t₁ : List ℕ} {c u : ℕ} {xs : List ℕ} where

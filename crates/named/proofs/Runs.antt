@@ -51,7 +51,7 @@ unfolding after
 after-none (made a xs) = refl
 after-none (refused w) = refl
 
-after-made : {A : Type 0} (xs : List Node) (o : Out A) (a : A) (ys : List Node) → after xs o ≡ made a ys → (zs : List Node) × (o ≡ made a zs) × (ys ≡ xs ++ zs)
+pub after-made : {A : Type 0} (xs : List Node) (o : Out A) (a : A) (ys : List Node) → after xs o ≡ made a ys → (zs : List Node) × (o ≡ made a zs) × (ys ≡ xs ++ zs)
 unfolding after
 after-made xs (made b zs) a ys e = (zs, cc, cc)
 after-made xs (refused w) a ys e = let z : _≡_ {A = ℕ} 0 1 = cc in absurd (omega arith)

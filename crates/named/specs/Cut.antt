@@ -31,6 +31,12 @@ cut l (stopped s r) = refused (refusal (faultOf s) r)
 cut zero (store x t) = refused (refusal Room (x .source))
 cut (suc l) (store x t) = after (x ∷ []) (cut l t)
 
+-- how many nodes a trace stores
+unfoldable pub size : {A : Type 0} → Trace A → ℕ
+size (done a) = 0
+size (stopped s r) = 0
+size (store x t) = suc (size t)
+
 -- document 01, Stored order: room is the table's length over five, at most 65,535
 unfoldable pub room : ℕ → ℕ
 room n = min (n / 5) 65535

@@ -1,0 +1,4 @@
+pub mod Selectors
+pub mod Memos
+mod Passes
+mod Records

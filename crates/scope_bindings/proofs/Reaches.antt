@@ -1,0 +1,106 @@
+-- Laws of a search from the newest binding on, and of the steps that it draws.
+-- Assumes nothing.
+use Prim.Native.Nat.{ℕ, zero, suc, _+_, _-_, _<_, _≤_}
+use mathlib.Core.List.{List, [], _∷_, map-append}
+use mathlib.Core.Option.{Option, none}
+use mathlib.Core.Path.{_≡_, refl, ap, _∙_}
+use native.Mathlib.Omega.{arith}
+use lib.ListN.{length, getD, replicate}
+use Rattle.array.specs.Path.{Side, onLeft, onRight}
+use Rattle.book.specs.Faults.{refusal}
+use Rattle.book.specs.declared.fault.Fault.the-variants.{Undefined}
+use Rattle.named.specs.Trace.{emit}
+use Rattle.named.specs.Combinators.{TAKE, DROP, kinds, wraps}
+use Rattle.named.specs.Draws.{Draws, Done, Opens, Closes}
+use Rattle.named.specs.declared.node.Pen.{Pen}
+use Rattle.named.specs.declared.node.Stored.{Stored}
+use Rattle.named.specs.declared.node.Stored.the-variants as stores
+use Rattle.named.proofs.Runs.{bind-pure}
+use Rattle.named.proofs.Pens.{draw-then, draw-pure, closes, done-stop}
+use Rattle.pattern.specs.Find.{find}
+use Rattle.pattern.specs.Seeks.{Absent, Found, Seeks}
+use Rattle.pattern.specs.declared.Sought.the-variants as answers
+use Rattle.pattern.proofs.Selectors.{wraps-more, seeks-missing, seeks-found, found-on}
+use Rattle.scope_bindings.specs.Scope.{reach, through, lookupFrom, lookup, fetch, binding, bound, newest}
+use Rattle.scope_bindings.specs.declared.Binding.{Binding}
+use Rattle.scope_bindings.proofs.Scopes.{newest-length}
+
+-- a search for x in the first n bindings has passed those from `at` on, and stored nothing
+pub record Misses (b i : List ℕ) (bs : List Binding) (n x at : ℕ) (t t₁ : List ℕ) : Type 0 where
+  pub low : at ≤ n
+  pub table : t₁ ≡ t
+  pub rest : lookup x (newest b i bs n) ≡ lookupFrom (n - at) x (newest b i bs at)
+
+-- none passed yet
+pub misses-none : (b i : List ℕ) (bs : List Binding) (n x : ℕ) (t : List ℕ) → Misses b i bs n x n t t
+misses-none b i bs n x t = let z : n - n ≡ 0 = omega arith in record { low = omega arith; table = refl; rest = rw z }
+
+module _ {b i : List ℕ} {bs : List Binding} {n x at : ℕ} {t t₁ : List ℕ} (m : Misses b i bs n x at t t₁) where
+  pub misses-kept : length t₁ ≡ length t
+  misses-kept = ap length (m .table)
+
+  -- all passed: the name is not in scope
+  pub misses-all : {r : ℕ} {pen : Pen} → at ≤ 0 → Seeks r t pen (lookup x (newest b i bs n)) answers.Missing t₁
+  unfolding newest lookupFrom
+  misses-all o = let z : at ≡ 0 = omega arith in rw (m .table) (seeks-missing (m .rest ∙ rw z))
+
+  -- the next binding to search
+  module _ (u : ℕ) (o : 0 < at) (e : u ≡ at - 1) where
+    misses-here : lookup x (newest b i bs n) ≡ through (n - at) u (find x (bound b i (getD bs u (binding 0) .pattern))) (lookupFrom (suc (n - at)) x (newest b i bs u))
+    unfolding newest lookupFrom
+    misses-here = let z : at ≡ suc u = omega arith in m .rest ∙ ap (λ k. lookupFrom (n - at) x (newest b i bs k)) z ∙ rw (newest-length b i bs u)
+
+    pub misses-next : {t₂ : List ℕ} → find x (bound b i (getD bs u (binding 0) .pattern)) ≡ none → t₂ ≡ t₁ → Misses b i bs n x u t t₂
+    unfolding through
+    misses-next f same = record {
+      low = omega (arith, m .low);
+      table = same ∙ m .table;
+      rest = let z : suc (n - at) ≡ n - u = omega (arith, m .low) in misses-here ∙ rw (f, z);
+    }
+
+    pub misses-found : {r : ℕ} {t₂ t₃ : List ℕ} {pen q v : Pen} (newer : ℕ) → newer ≡ n - 1 - u → Found r t₁ pen (find x (bound b i (getD bs u (binding 0) .pattern))) q t₂ → Draws r t₂ q (wraps r (kinds TAKE DROP (reach newer u)) (q .root)) v t₃ → Seeks r t pen (lookup x (newest b i bs n)) (answers.Drawn v) t₃
+    unfolding through
+    misses-found {r = r} {t₂ = t₂} {pen = pen} {q = q} newer y f d =
+        let z : n - at ≡ newer = omega (arith, m .low) in
+        let g : Found r t pen (find x (bound b i (getD bs u (binding 0) .pattern))) q t₂ = rw (m .table) at f in
+        seeks-found (found-on (reach newer u) g (misses-here ∙ rw (g .is, z)) d)
+
+-- drops, one after another
+module _ {r : ℕ} {t : List ℕ} {p : Pen} where
+  pub drops-none : Draws r t p (wraps r (replicate 0 DROP) (p .root)) p t
+  unfolding wraps
+  drops-none = draw-pure r t p
+
+  pub drops-next : {t₁ t₂ : List ℕ} {q s : Pen} (k u : ℕ) → u ≡ k + 1 → Draws r t p (wraps r (replicate k DROP) (p .root)) q t₁ → Draws r t₁ q (emit r DROP (q .root) 0) s t₂ → Draws r t p (wraps r (replicate u DROP) (p .root)) s t₂
+  unfolding wraps
+  drops-next k u e d f = let z : u ≡ suc k = omega arith in rw z (draw-then (λ a. emit r DROP a 0) d f)
+
+  pub drops-all : {t₁ : List ℕ} {q : Pen} (k n : ℕ) → k ≤ n → n ≤ k → Draws r t p (wraps r (replicate k DROP) (p .root)) q t₁ → Draws r t p (wraps r (replicate n DROP) (p .root)) q t₁
+  drops-all k n a o d = let z : n ≡ k = omega arith in rw z d
+
+kinds-drops : (n : ℕ) → kinds TAKE DROP (replicate n onRight) ≡ replicate n DROP
+kinds-drops zero = refl
+kinds-drops (suc n) = ap (_∷_ DROP) (kinds-drops n)
+
+-- the steps to the root; to another binding
+module _ {r : ℕ} {t : List ℕ} {p : Pen} (newer older : ℕ) where
+  pub reach-root : {t₁ : List ℕ} {q : Pen} → older ≡ 0 → Draws r t p (wraps r (replicate newer DROP) (p .root)) q t₁ → Draws r t p (wraps r (kinds TAKE DROP (reach newer older)) (p .root)) q t₁
+  unfolding reach
+  reach-root e d = rw (e, kinds-drops newer) d
+
+  pub reach-other : {t₁ t₂ : List ℕ} {q s : Pen} → (older ≡ 0 → ⊥) → Draws r t p (emit r TAKE (p .root) 0) q t₁ → Draws r t₁ q (wraps r (replicate newer DROP) (q .root)) s t₂ → Draws r t p (wraps r (kinds TAKE DROP (reach newer older)) (p .root)) s t₂
+  unfolding reach wraps
+  reach-other h d f =
+      let z : older ≡ suc (older - 1) = omega (arith, h) in
+      rw (z, map-append _ (replicate newer onRight) (onLeft ∷ []), kinds-drops newer, wraps-more r (replicate newer DROP) (TAKE ∷ []) (p .root), bind-pure (p .root) (λ b. emit r TAKE b 0))
+      (draw-then (wraps r (replicate newer DROP)) d f)
+
+-- a variable's node, or its refusal
+module _ {r c : ℕ} {t t′ : List ℕ} {w : Option (List Side)} where
+  pub fetch-found : {p q : Pen} {s : Stored} → Opens c p → Found r t p w q t′ → Closes r q s → Done t c (fetch r w) s t′
+  unfolding fetch
+  fetch-found o f h = rw (f .is) (closes o (f .drawn) h)
+
+  pub fetch-missing : Absent w t t′ → Done t c (fetch r w) (stores.Refused (refusal Undefined r)) t′
+  unfolding fetch
+  fetch-missing a = rw (a .is, a .table) (done-stop t c r _)

@@ -1,0 +1,160 @@
+// The bindings of a scope: a fixed row, searched from the newest.
+ghost use Prim.Native.Nat.{_<_};
+ghost use lib.ListN.{replicate};
+ghost use Rattle.named.specs.Combinators.{TAKE, DROP, kinds, wraps};
+ghost use Rattle.named.specs.Draws.{Draws, Done};
+ghost use Rattle.pattern.specs.Find.{find};
+ghost use Rattle.pattern.specs.Seeks.{Memo, Searches};
+ghost use Rattle.scope_bindings.specs.Scope.{reach, lookup, variable, bound, scopeOf, Binds, ScopeStands, Roots, Inserts};
+use book::fault::Fault;
+use book::fault::Refusal;
+use book::format::FN;
+use book::record::mark_at;
+use named::node::DROP;
+use named::node::Pen;
+use named::node::Stored;
+use named::node::TAKE;
+use named::node::answer_of;
+use named::node::pen_at;
+use named::node::put;
+use pattern::Sought;
+use pattern::get_from;
+use pattern::get_param;
+
+// An entry for the ignore pattern, which no record need stand for.
+pub const IGNORED: u16 = 65535;
+
+// A pattern's record, or a function's for its parameter tuple, or IGNORED.
+pub struct Binding {
+    pub pattern: u16,
+}
+
+// The bindings in the order in which they were made: the first is the root, the input itself.
+pub struct ScopeBindings {
+    pub bindings: [Binding; 256],
+    pub count: usize,
+}
+
+// A scope whose only binding is its root.
+pub fn from_root(root: u16) -> ScopeBindings
+    ensures { λ s. ⌜ Roots root s ⌝ }
+{
+    let mut bindings = [Binding { pattern: IGNORED }; 256];
+    bindings[0] = Binding { pattern: root };
+    ScopeBindings {
+        bindings: bindings,
+        count: 1,
+    }
+}
+
+// A scope with one binding more. The scope itself is left as it is: a block's or an arm's bindings end with it.
+pub fn insert(scope: ScopeBindings, pattern: u16) -> ScopeBindings
+    requires { ⌜ scope .count < 256 ⌝ }
+    ensures { λ s. ⌜ Inserts scope pattern s ⌝ }
+{
+    let mut wider = scope;
+    let at = wider.count;
+    wider.bindings[at] = Binding { pattern: pattern };
+    wider.count = at + 1;
+    wider
+}
+
+// The selector of a name in a scope, or a refusal where the name is not in scope.
+pub fn get(
+    book: &[u8],
+    index: &[u16],
+    scope: ScopeBindings,
+    name: u16,
+    nodes: &mut [u8],
+    place: u16,
+    next: u16,
+) -> Stored
+    requires { ⌜ ScopeStands (now book) (now index) scope ⌝ }
+    ensures { λ s. ⌜ Done (now (nodes .entry)) next (variable place name (scopeOf (now (book .entry)) (now (index .entry)) scope)) s (now (nodes .exit)) ⌝ }
+{
+    let mut missing = [0u8; 4096];
+    let pen = pen_at(next);
+    match get_newest(book, index, scope, name, &mut missing, nodes, place, pen) {
+        Sought::Drawn(found) => answer_of(place, found),
+        Sought::Missing => Stored::Refused(Refusal {
+            fault: Fault::Undefined,
+            place: place,
+        }),
+    }
+}
+
+// Searches the bindings from the newest on. One row of what was sought in vain serves them all, since they may share their parts.
+fn get_newest(
+    book: &[u8],
+    index: &[u16],
+    scope: ScopeBindings,
+    name: u16,
+    missing: &mut [u8],
+    nodes: &mut [u8],
+    place: u16,
+    pen: Pen,
+) -> Sought
+    requires { ⌜ ScopeStands (now book) (now index) scope ⌝ ∗ ⌜ Memo (now book) (now index) name (now missing) ⌝ }
+    ensures { λ s. ⌜ Searches (now (book .entry)) (now (index .entry)) name (lookup name (scopeOf (now (book .entry)) (now (index .entry)) scope)) place (now (nodes .entry)) pen s (now (nodes .exit)) (now (missing .exit)) ⌝ }
+{
+    let count = scope.count;
+    let mut at = count;
+    while 0 < at {
+        at -= 1;
+        let pattern = scope.bindings[at].pattern;
+        match get_bound(book, index, pattern, name, missing, nodes, place, pen) {
+            Sought::Drawn(inner) => {
+                return Sought::Drawn(reach(nodes, place, inner, count - 1 - at, at));
+            }
+            Sought::Missing => {}
+        }
+    }
+    Sought::Missing
+}
+
+// Searches one binding.
+fn get_bound(
+    book: &[u8],
+    index: &[u16],
+    pattern: u16,
+    name: u16,
+    missing: &mut [u8],
+    nodes: &mut [u8],
+    place: u16,
+    pen: Pen,
+) -> Sought
+    requires { ⌜ Binds (now book) (now index) pattern ⌝ ∗ ⌜ Memo (now book) (now index) name (now missing) ⌝ }
+    ensures { λ s. ⌜ Searches (now (book .entry)) (now (index .entry)) name (find name (bound (now (book .entry)) (now (index .entry)) pattern)) place (now (nodes .entry)) pen s (now (nodes .exit)) (now (missing .exit)) ⌝ }
+{
+    if pattern == IGNORED {
+        return Sought::Missing;
+    }
+    if mark_at(book, index, pattern) == FN {
+        return get_param(book, index, pattern, name, nodes, place, pen);
+    }
+    get_from(book, index, pattern, name, missing, nodes, place, pen)
+}
+
+// The steps to a binding around what was found in it, where so many bindings are newer and so many older.
+fn reach(nodes: &mut [u8], place: u16, pen: Pen, newer: usize, older: usize) -> Pen
+    ensures { λ q. ⌜ Draws place (now (nodes .entry)) pen (wraps place (kinds TAKE DROP (reach newer older)) (pen .root)) q (now (nodes .exit)) ⌝ }
+{
+    if older == 0 {
+        return drops(nodes, place, pen, newer);
+    }
+    let new = put(nodes, place, pen, TAKE, pen.root, 0);
+    drops(nodes, place, new, newer)
+}
+
+// The pen's node wrapped by n drops.
+fn drops(nodes: &mut [u8], place: u16, pen: Pen, n: usize) -> Pen
+    ensures { λ q. ⌜ Draws place (now (nodes .entry)) pen (wraps place (replicate n DROP) (pen .root)) q (now (nodes .exit)) ⌝ }
+{
+    let mut at = pen;
+    let mut k: usize = 0;
+    while k < n {
+        at = put(nodes, place, at, DROP, at.root, 0);
+        k += 1;
+    }
+    at
+}
