@@ -153,9 +153,12 @@ halt k p e = record { kept = p .kept; fate = stops k (rw e at (p .fate)) }
 -- a pen's answer
 pub closes : {r c : ℕ} {t t′ : List ℕ} {m : Run ℕ} {p q : Pen} {s : Stored} → Opens c p → Draws r t p m q t′ → Closes r q s → Done t c m s t′
 unfolding Fate
-closes {q = q} o d h = record { kept = d .kept; fate = either (q .full)
-    (λ f. rw (h .full f) (rw (o .next) at (d .full (o .full) f)))
-    (λ f. rw (h .root f) (rw (o .next) at (d .drawn (o .full) f))) }
+closes {q = q} o d h = record {
+  kept = d .kept;
+  fate = either (q .full)
+      (λ f. rw (h .full f) (rw (o .next) at (d .full (o .full) f)))
+      (λ f. rw (h .root f) (rw (o .next) at (d .drawn (o .full) f)));
+}
 
 pub done-pure : (t : List ℕ) (c a : ℕ) → Done t c (pure a) (answers.Node a c) t
 unfolding Fate

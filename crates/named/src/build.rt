@@ -6,8 +6,15 @@ ghost use lib.ListN.{length, take, drop};
 ghost use Rattle.array.specs.Path.{path};
 ghost use Rattle.named.specs.Combinators.{bit, kinds, wraps, select, joins, applied};
 ghost use Rattle.named.specs.Draws.{Draws};
+use crate::node::COMP;
+use crate::node::IDEN;
+use crate::node::INJL;
+use crate::node::INJR;
+use crate::node::PAIR;
+use crate::node::Pen;
+use crate::node::UNIT;
+use crate::node::put;
 use array::split;
-use crate::node::{put, Pen, COMP, IDEN, INJL, INJR, PAIR, UNIT};
 
 // A bit: injl unit for false, injr unit for true.
 pub fn bit(nodes: &mut [u8], place: u16, pen: Pen, value: bool) -> Pen

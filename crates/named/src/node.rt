@@ -4,23 +4,38 @@ ghost use mathlib.Core.Bool.{true, false};
 ghost use Rattle.named.specs.Trace.{emit};
 ghost use Rattle.named.specs.Combinators.{iden, unit, injl, injr, take, drop, comp, case, pair, assertl, assertr, fail, witness, scribe, jet};
 ghost use Rattle.named.specs.Draws.{Draws, Opens, Closes};
-use book::fault::{Fault, Refusal};
+use book::fault::Fault;
+use book::fault::Refusal;
 
 // The kinds of nodes: document 01, Stored order.
 pub const IDEN: u8 = 1;
+
 pub const UNIT: u8 = 2;
+
 pub const INJL: u8 = 3;
+
 pub const INJR: u8 = 4;
+
 pub const TAKE: u8 = 5;
+
 pub const DROP: u8 = 6;
+
 pub const COMP: u8 = 7;
+
 pub const CASE: u8 = 8;
+
 pub const PAIR: u8 = 9;
+
 pub const ASSERTL: u8 = 10;
+
 pub const ASSERTR: u8 = 11;
+
 pub const FAIL: u8 = 12;
+
 pub const WITNESS: u8 = 13;
+
 pub const SCRIBE: u8 = 14;
+
 pub const JET: u8 = 15;
 
 // Where the next node goes: its number, the last node that was stored, and whether a node did not fit. A full pen stores nothing, so
