@@ -12,7 +12,7 @@ use Rattle.book.specs.declared.fault.Fault.the-variants.{Room}
 use Rattle.named.specs.Trace.{Trace, done, stopped, store, Run, pure, graft, bind, emit}
 use Rattle.named.specs.Combinators.{bit, wraps, select, applied}
 use Rattle.named.specs.Cut.{refused, after, cut, size, room}
-use Rattle.named.specs.Draws.{Draws}
+use Rattle.named.specs.Draws.{Stops, Draws}
 use Rattle.named.specs.declared.node.Pen.{Pen}
 
 -- a trace that ends with a result, each node of it for record r
@@ -83,11 +83,15 @@ cut-short (stopped s q) l w h = absurd w
 cut-short (store x τ) zero w h = rw (w .0)
 cut-short (store x τ) (suc l) w h = rw (cut-short τ l (w .1) (omega arith))
 
--- with more nodes than there is room for, a run is refused at its record: a full pen tells it
+-- with more nodes than there is room for, a run is refused at its record
+pub stops-short : {A : Type 0} {r n : ℕ} {m : Run A} (t : List ℕ) (c : ℕ) → Stores r n m → room (length t) - c < n → Stops t c m (refusal Room r)
+stops-short {m = m} t c d h = record { is = cut-short (m c) (room (length t) - c) (d .whole c) (omega (arith, d .count c)) }
+
+-- a full pen tells it
 pub draw-short : {r n : ℕ} {m : Run ℕ} (t : List ℕ) (p : Pen) → Stores r n m → room (length t) - p .next < n → Draws r t p m (record { next = p .next; root = p .root; full = true }) t
-draw-short {m = m} t p d h = record {
+draw-short t p d h = record {
   kept = refl;
   shut = λ f. refl;
   drawn = λ f g. let z : _≡_ {A = ℕ} 0 1 = cc in absurd (omega arith);
-  full = λ f g. record { is = cut-short (m (p .next)) (room (length t) - p .next) (d .whole (p .next)) (omega (arith, d .count (p .next))) };
+  full = λ f g. stops-short t (p .next) d h;
 }

@@ -1,0 +1,3 @@
+mod Folds
+mod Hashes
+pub mod Counts

@@ -1,0 +1,2 @@
+pub mod ArrayFold
+pub mod RawHash

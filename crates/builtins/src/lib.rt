@@ -1,0 +1,2 @@
+pub mod array_fold;
+pub mod raw_hash;

@@ -1,0 +1,3 @@
+mod Folds
+mod Loops
+pub mod Counts

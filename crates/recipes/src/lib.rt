@@ -1,0 +1,3 @@
+pub mod calls;
+pub mod for_while;
+pub mod list_fold;
