@@ -6,7 +6,7 @@ use mathlib.Core.List.{List, [], _∷_}
 use mathlib.Core.Path.{_≡_, refl, subst, sym, ap, _∙_}
 use mathlib.Core.Logic.{_⊎_, ⊎-elim}
 use native.Mathlib.Nat.{not-suc-le-zero, eq-or-lt-of-le, le-of-suc-le-suc}
-use borrow.Author.Tests.{ne-eqb}
+use borrow.Author.Tests.{ne-eqb, eqb-true}
 use native.Mathlib.Omega.{arith}
 use lib.Dec.{T, eqb, eqb→eq}
 
@@ -46,6 +46,25 @@ keys (e ∷ es) = e .key ∷ keys es
 abbrev pub among : List ℕ → ℕ → Bool
 among [] m = false
 among (k ∷ ks) m = pick (eqb m k) true (among ks m)
+
+-- P holds of each of the numbers
+abbrev pub Every : (ℕ → Type 0) → List ℕ → Type 0
+Every P [] = Unit {0}
+Every P (k ∷ ks) = P k × Every P ks
+
+-- a proof for the first, and those for the others
+infixr 20 _also_
+abbrev pub _also_ : {A B : Type 0} → A → B → A × B
+a also b = (a, b)
+
+-- so it holds of a number that is one of them
+pub every : (ks : List ℕ) (P : ℕ → Type 0) → Every P ks → (m : ℕ) → T (among ks m) → P m
+every [] P h m t = absurd t
+every (k ∷ ks) P h m t = go (every ks P (h .1) m) (eqb m k) refl t
+  where
+    go : (T (among ks m) → P m) → (b : Bool) → eqb m k ≡ b → T (pick b true (among ks m)) → P m
+    go f true e u = subst P (sym (eqb-true m k e)) (h .0)
+    go f false e u = f u
 
 -- what the `_` of a match over these keys knows: a fact for each key, the last outermost, K innermost
 abbrev pub Rest : List ℕ → ℕ → Type 0 → Type 0

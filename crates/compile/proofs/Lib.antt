@@ -1,0 +1,4 @@
+pub mod Shapes
+pub mod Steps
+pub mod Blocks
+pub mod Facts

@@ -1,0 +1,3 @@
+pub mod Lower
+pub mod Cycle
+pub mod Whole

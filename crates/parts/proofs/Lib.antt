@@ -1,0 +1,5 @@
+mod Ends
+mod Lists
+pub mod Marks
+mod Numbers
+pub mod Spans

@@ -1,0 +1,3 @@
+// What a record's fields say by its mark, and what is stored around its expressions.
+pub mod part;
+pub mod view;
