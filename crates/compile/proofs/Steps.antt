@@ -22,15 +22,15 @@ use Rattle.named.specs.declared.node.Stored.the-variants as answers
 use Rattle.named.specs.declared.node.Filled.{Filled}
 use Rattle.named.specs.declared.node.Filled.the-variants as fillings
 use Rattle.named.proofs.Pens.{done-stop, fill-none, fill-next, fill-halt, fill-any}
-use Rattle.compile.specs.Lower.{binding}
+use Rattle.compile.specs.Lower.{bindingAt}
 use Rattle.compile.specs.Cycle.{elementRun, elementsRun}
 
--- a binding that there is room for, and one too many
-pub binding-fits : (sc : List Pat) (r : ℕ) {t t′ : List ℕ} {c : ℕ} {m : Run ℕ} {s : Stored} → length sc < 256 → Done t c m s t′ → Done t c (binding r sc m) s t′
-binding-fits sc r h d = rw (lt-ltb (length sc) 256 h) d
+-- a binding that there is room for, and one too many, where so many are live
+pub at-fits : (live r : ℕ) {t t′ : List ℕ} {c : ℕ} {m : Run ℕ} {s : Stored} → live < 256 → Done t c m s t′ → Done t c (bindingAt r live m) s t′
+at-fits live r h d = rw (lt-ltb live 256 h) d
 
-pub binding-full : (sc : List Pat) (t : List ℕ) (c r : ℕ) (m : Run ℕ) → 256 ≤ length sc → Done t c (binding r sc m) (answers.Refused (refusal Bindings r)) t
-binding-full sc t c r m h = rw (le-ltb (length sc) 256 h) (done-stop t c r bindings)
+pub at-full : (live : ℕ) (t : List ℕ) (c r : ℕ) (m : Run ℕ) → 256 ≤ live → Done t c (bindingAt r live m) (answers.Refused (refusal Bindings r)) t
+at-full live t c r m h = rw (le-ltb live 256 h) (done-stop t c r bindings)
 
 -- elements of record r in the scope sc, stride s apart
 module _ (y : Bool) (b i : List ℕ) (r m : ℕ) (sc : List Pat) (s : ℕ) where
