@@ -2,3 +2,4 @@ pub mod Shapes
 pub mod Steps
 pub mod Blocks
 pub mod Facts
+pub mod Wholes
