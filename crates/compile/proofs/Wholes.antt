@@ -67,7 +67,7 @@ pub clear-length : {t : List ℕ} {n : ℕ} → t ≡ zeros n → length t ≡ n
 clear-length {n = n} e = ap length e ∙ length-replicate {A = ℕ} n 0
 
 pub clear-again : {t : List ℕ} (n : ℕ) → t ≡ zeros n → t ≡ zeros (length t)
-clear-again n e = e ∙ ap zeros (sym (clear-length e))
+clear-again {t} n e = let z : n ≡ length t = sym (clear-length e) in e ∙ ap zeros z
 
 -- and so LOWER's answer and its table
 module _ (b : List ℕ) (y : Bool) (l : ℕ) where
