@@ -23,6 +23,8 @@ pub fn all() -> Vec<Case> {
         full_types(),
         full_rows(),
         full_book(),
+        of_size(0),
+        of_size(65_536),
     ];
     for depth in [253, 254, 255, 256] {
         cases.extend(
@@ -289,6 +291,14 @@ fn full_book() -> Case {
     let end = writer.tuple_expression(&variables);
     writer.block(&statements, end);
     Case::plain("full book".to_string(), &writer)
+}
+
+/// A book of `size` bytes, which is no size of a book.
+fn of_size(size: usize) -> Case {
+    let mut case = full_book();
+    case.label = format!("{size} bytes");
+    case.book.resize(size, 0);
+    case
 }
 
 /// One construct in itself, `depth` records deep.

@@ -4,9 +4,15 @@
 //!     judge nightly COUNT     COUNT books of each sort
 //!     judge store             writes the original's answers to a sample
 //!     judge vectors COUNT     writes READ's vectors to standard output
+//!     judge library COUNT SERVICE LOWERBOOK [WORD]...
+//!                             LOWER in Rattle on COUNT books of each sort,
+//!                             through the program of `compare/library`, and
+//!                             `lowerbook` on some; what programs are started
+//!                             under comes last
 
 mod answers;
 mod demand;
+mod library;
 mod nodes;
 mod robust;
 mod vectors;
@@ -15,6 +21,7 @@ mod work;
 use std::collections::HashMap;
 use std::io::Write;
 use std::process::ExitCode;
+use std::sync::Mutex;
 
 use gen::{damage, hostile, scoped, systematic, typed, Case};
 use model::book;
@@ -29,6 +36,10 @@ const VECTORS: &str = concat!(
 /// A comparison of fewer books, or with fewer failures, shows too little.
 const BOOKS: usize = 2_000;
 const FAILURES: usize = 200;
+
+/// Of how many books of each sort `lowerbook`'s listing is compared: it is
+/// started afresh for each.
+const LISTINGS: usize = 12;
 
 fn say(line: &str) {
     println!("judge: {line}");
@@ -166,6 +177,62 @@ fn count_marks(some: usize) -> Result<(), String> {
     Ok(())
 }
 
+/// What `judge` says of each hostile book, and of `some` each of systematic,
+/// scoped, typed and damaged ones. It is told whether to ask the original, which
+/// can't walk what is hostile.
+fn each_sort<T: Send>(
+    some: usize,
+    judge: impl Fn(&Case, bool) -> Result<T, String> + Sync,
+) -> Result<Vec<T>, String> {
+    let (hostile, systematic) = (hostile::all(), systematic::all());
+    let spread = some.min(systematic.len());
+    let mut others: Vec<Case> = (0..spread)
+        .map(|k| systematic[k * systematic.len() / spread].clone())
+        .collect();
+    for seed in 0..some as u64 {
+        let damaged = vectors::damaged(seed);
+        others.extend([scoped::book(seed), typed::book(seed), damaged]);
+    }
+    let all = |cases: &[Case], ask| {
+        let case = |number: usize| cases[number].clone();
+        each(cases.len(), case, |case| judge(case, ask))
+    };
+    let mut said = all(&hostile, false)?;
+    said.extend(all(&others, original::HERE)?);
+    Ok(said)
+}
+
+/// LOWER in Rattle against both judges.
+fn compare_library(some: usize, service: &str, start: &library::Start) -> Result<(), String> {
+    let service = Mutex::new(library::Service::new(start, service)?);
+    let seen = each_sort(some, |case, ask| library::agrees(&service, case, ask))?;
+    let met = |number: &u32| seen.iter().any(|seen| seen.numbers.contains(number));
+    if let Some(number) = (0..=12).find(|number| !met(number)) {
+        return Err(format!("LOWER in Rattle never answers {number}"));
+    }
+    let (calls, spent) = service.into_inner().expect("no judge panicked").calls();
+    say(&format!(
+        "LOWER in Rattle is the model's in {calls} calls on {} books, with every refusal from 1 to 12, and the original's on {} of these; a call takes {} microseconds",
+        seen.len(),
+        seen.iter().filter(|seen| seen.original).count(),
+        spent.as_micros(),
+    ));
+    enough(seen.len(), BOOKS, "books compared")
+}
+
+/// What `lowerbook` prints, against both judges.
+fn compare_listings(some: usize, lowerbook: &str, start: &library::Start) -> Result<(), String> {
+    let refused = each_sort(some, |case, ask| {
+        library::prints(start, lowerbook, case, ask)
+    })?;
+    say(&format!(
+        "lowerbook prints the listing of {} books and the refusal of {}",
+        count(&refused, false),
+        count(&refused, true),
+    ));
+    enough(count(&refused, true), some, "refusals printed")
+}
+
 fn replay() -> Result<(), String> {
     let read = |path| std::fs::read(path).map_err(|error| format!("{path}: {error}"));
     let answers = answers::replay(&read(ANSWERS)?)?;
@@ -234,7 +301,14 @@ fn main() -> ExitCode {
         ["nightly", some] => number(some).and_then(|some| judge(&[], some)),
         ["store"] => store(),
         ["vectors", some] => number(some).and_then(write_vectors),
-        _ => Err("usage: judge gate [FILE]... | nightly COUNT | store | vectors COUNT".to_string()),
+        ["library", some, service, lowerbook, ref under @ ..] => {
+            let start = library::Start { under };
+            number(some).and_then(|some| {
+                compare_library(some, service, &start)?;
+                compare_listings(LISTINGS, lowerbook, &start)
+            })
+        }
+        _ => Err("usage: judge gate [FILE]... | nightly COUNT | store | vectors COUNT | library COUNT SERVICE LOWERBOOK [WORD]...".to_string()),
     };
     match done {
         Ok(()) => ExitCode::SUCCESS,

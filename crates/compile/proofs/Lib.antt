@@ -3,3 +3,4 @@ pub mod Steps
 pub mod Blocks
 pub mod Facts
 pub mod Wholes
+pub mod Fits

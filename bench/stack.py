@@ -1,0 +1,214 @@
+#!/usr/bin/env python3
+"""Finds how much stack LOWER needs on the books that are worst for it, through the program of compare/library.
+
+    bench/stack.py [WORD]...      every book, or those whose names have these words in them
+
+LOWER recurses as deep as a book's expressions nest, which READ bounds by 255. So each construct is nested in each of
+its own places as deep as may be: no mixture of constructs takes more than the dearest of them does. At the innermost
+place of those that are dearest stand, in turn, the searches and recipes that recurse by themselves.
+For each book it prints its bytes, the answer, and the least number of bytes of stack, to a page, with which the call
+returns. That the library does without more is a matter of its compilation, and the same on every x86-64.
+"""
+import os
+import struct
+import subprocess
+import sys
+
+ROOT = os.path.dirname(os.path.dirname(os.path.abspath(__file__)))
+sys.path[:0] = [os.path.join(ROOT, "tools")]
+
+from booklib import NO_END, pack
+
+SERVICE = os.path.join(ROOT, "target", "library", "service")
+FULL = 5 * 65535
+PAGE = 4096
+MOST = 1 << 27
+DEEPEST = 255
+
+# A construct's record, nested in its field @. T is the unit type, P a pattern that ignores, E an expression of its
+# own, S a statement, F a function; @S is a statement, and @F a function, that holds what is nested.
+NESTS = (
+    "e0 T @", "e1 T @", "en T 1 3 1 @", "et T 1 @", "et T 3 E E @", "el T 4 1 @", "el T 4 3 E E @",
+    "eb T 0 @", "eb T 1 S @", "eb T 1 @S @N", "eb T 2 S @S @N", "eb T 1 @SA @N",
+    "em T @ P E P E", "em T E P @ P E", "em T E P E P @",
+    "eh T @ 1 P E", "eh T E 1 P @", "eh T E 3 P E P E P @",
+    "cj T 1 2 2 E @", "cl T 1 @", "cr T 1 @", "cd T 1 @", "ca T 1 @", "cn T @", "ck T @",
+    "cf T F 1 @", "cf T @F 0", "cq T F 256 @ E", "cq T F 256 E @", "cq T @F 256 E E",
+    "cy T F 255 E @", "cy T @F 255 E E", "cw T F 16 E @", "cw T @F 16 E E", "ch T 1 1 256 @", "ch T 1 2 8 E 256 @",
+)  # fmt: skip
+
+
+class Writer:
+    """A book being written, with the depth of each record."""
+
+    def __init__(self):
+        self.bytes = bytearray()
+        self.depths = []
+
+    def put(self, mark, *fields, names=()):
+        """A record that names `names`; its number."""
+        self.bytes += pack(mark, fields)
+        self.depths.append(1 + max((self.depths[name] for name in names), default=0))
+        return len(self.depths) - 1
+
+
+def nested(nest, innermost, bind=None):
+    """The book of one construct in itself, as deep as READ allows; `bind` makes a pattern that is bound around it."""
+    book = Writer()
+    unit, nothing = book.put("tu"), book.put("pn")
+    function = empty_function(book, unit)
+    pattern = bind(book) if bind else None
+    whole = innermost(book, unit)
+    top = DEEPEST - (1 if bind else 0)
+    while True:
+        # A level takes up to two records more in depth: it is written on a copy, and kept if it fits.
+        bytes_before, depths_before = bytes(book.bytes), list(book.depths)
+        level = write_level(book, nest, whole, unit, nothing, function)
+        if book.depths[level] > top or len(book.depths) > 4000:
+            book.bytes, book.depths = bytearray(bytes_before), depths_before
+            break
+        whole = level
+    if bind:
+        value = empty(book, unit)
+        assign = book.put("sa", pattern, value, names=[pattern, value])
+        book.put("eb", unit, 1, assign, whole, names=[assign, whole])
+    return bytes(book.bytes)
+
+
+def empty(book, unit):
+    return book.put("et", unit, 0, names=[unit])
+
+
+def empty_function(book, unit):
+    body = empty(book, unit)
+    return book.put("fn", unit, 0, body, names=[unit, body])
+
+
+def write_level(book, nest, whole, unit, nothing, function):
+    mark, *words = nest.split()
+    fields, names = [], []
+
+    def statement(e):
+        return book.put("se", e, names=[e])
+
+    made = {
+        "T": lambda: unit,
+        "P": lambda: nothing,
+        "F": lambda: function,
+        "E": lambda: empty(book, unit),
+        "S": lambda: statement(empty(book, unit)),
+        "@": lambda: whole,
+        "@S": lambda: statement(whole),
+        "@SA": lambda: book.put("sa", nothing, whole, names=[nothing, whole]),
+        "@F": lambda: book.put("fn", unit, 0, whole, names=[unit, whole]),
+    }
+    for word in words:
+        if word in made:
+            fields.append(made[word]())
+            names.append(fields[-1])
+        else:
+            fields.append(NO_END if word == "@N" else int(word))
+    return book.put(mark, *fields, names=names)
+
+
+def deep_pattern(book):
+    """250 rows in one another, the name at the last place."""
+    pattern = book.put("pi", 7)
+    nothing = book.put("pn")
+    for _ in range(250):
+        pattern = book.put("pt", 2, nothing, pattern, names=[nothing, pattern])
+    return pattern
+
+
+def wide_pattern(book):
+    """A row of 256 rows of 256, the name at the last place."""
+    nothing, name = book.put("pn"), book.put("pi", 7)
+    row = book.put("pt", 256, *[nothing] * 256, names=[nothing])
+    last = book.put("pt", 256, *[nothing] * 255, name, names=[nothing, name])
+    return book.put("pt", 256, *[row] * 255, last, names=[row, last])
+
+
+def wide_scope():
+    """A block of 255 bindings, the name in the oldest."""
+    book = Writer()
+    unit, nothing, name = book.put("tu"), book.put("pn"), book.put("pi", 7)
+    statements = []
+    for k in range(255):
+        e = empty(book, unit)
+        statements.append(book.put("sa", name if k == 0 else nothing, e, names=[nothing, e]))
+    end = variable(book, unit)
+    book.put("eb", unit, 255, *statements, end, names=[*statements, end])
+    return bytes(book.bytes)
+
+
+def variable(book, unit):
+    return book.put("ev", unit, 7, names=[unit])
+
+
+def hash_of_256(book, unit):
+    words = [empty(book, unit) for _ in range(256)]
+    return book.put("ch", unit, 1, 256, *(x for e in words for x in (256, e)), names=words)
+
+
+def fold_of(mark, size):
+    """A fold or loop of empty tuples."""
+
+    def innermost(book, unit):
+        function = empty_function(book, unit)
+        parts = [empty(book, unit), empty(book, unit)]
+        return book.put(mark, unit, function, size, *parts, names=[function, *parts])
+
+    return innermost
+
+
+def books():
+    yield "an empty tuple", pack("tu", []) + pack("et", [0, 0])
+    yield "255 bindings", wide_scope()
+    for nest in NESTS:
+        yield f"{nest}, nested", nested(nest, empty)
+    for nest in ("et T 1 @", "eh T E 1 P @"):
+        yield f"{nest}, in it a pattern 250 deep", nested(nest, variable, deep_pattern)
+        yield f"{nest}, in it a pattern of 65,536 places", nested(nest, variable, wide_pattern)
+        yield f"{nest}, in it a hash of 256 words", nested(nest, hash_of_256)
+        yield f"{nest}, in it an array fold of 255", nested(nest, fold_of("cy", 255))
+        yield f"{nest}, in it a loop of 16 bits", nested(nest, fold_of("cw", 16))
+
+
+def lower(under, book, stack):
+    """LOWER's number, place and count with so much stack, or None where that is too little."""
+    request = struct.pack("<BII", 1, FULL, len(book)) + book
+    done = subprocess.run([*under, SERVICE, str(stack)], input=request, stdout=subprocess.PIPE, stderr=subprocess.DEVNULL)
+    return struct.unpack("<III", done.stdout[:12]) if done.returncode == 0 else None
+
+
+def least_stack(under, book):
+    """The least number of pages with which LOWER answers."""
+    low, high = 0, MOST // PAGE
+    while low + 1 < high:
+        middle = (low + high) // 2 if high < MOST // PAGE else 2 * max(low, 16)
+        if lower(under, book, PAGE * middle):
+            high = middle
+        else:
+            low = middle
+    return high
+
+
+def main():
+    build = os.path.join(ROOT, "compare", "library", "build")
+    under = subprocess.run([build], stdout=subprocess.PIPE, text=True, check=True).stdout.splitlines()
+    worst = 0
+    for name, book in books():
+        if not all(word in name for word in sys.argv[1:]):
+            continue
+        answer = lower(under, book, MOST)
+        if answer is None:
+            raise SystemExit(f"{name}: no answer with {MOST} bytes of stack")
+        stack = PAGE * least_stack(under, book)
+        worst = max(worst, stack)
+        print(f"| {name} | {len(book)} | {answer} | {stack} |", flush=True)
+    print(f"the most: {worst} bytes")
+    return 0
+
+
+if __name__ == "__main__":
+    sys.exit(main())
