@@ -151,10 +151,6 @@ module _ (b i : List ℕ) (r : ℕ) (y : Bool) (sc : List Pat) where
   unfolding asExpr lower rowRun spanAt elementsRun elementRun gatherRun completeRun isCall callRun bodyRun isFunctional plainRun symbolAt group
   is-panic k = rw (expr-at k) (after-none r _)
 
-  is-cast : RowIs CK
-  unfolding asExpr lower rowRun spanAt elementsRun elementRun gatherRun completeRun isCall wrapRun group
-  is-cast k = rw (expr-at k) (sym (bind-done _) ∙ after-one r _ _)
-
   is-call : RowIs CF
   unfolding asExpr lower rowRun spanAt elementsRun elementRun gatherRun completeRun isCall callRun bodyRun isFunctional foldRun symbolAt
   is-call k = rw (expr-at k, lowers-group y sc x a, ← bind-done (body y (asFun (a 1))))
@@ -191,7 +187,6 @@ module _ (b i : List ℕ) (r : ℕ) (y : Bool) (sc : List Pat) where
       also is-assert
       also is-panic
       also is-none
-      also is-cast
       also is-call
       also is-list-fold
       also is-array-fold
@@ -199,7 +194,7 @@ module _ (b i : List ℕ) (r : ℕ) (y : Bool) (sc : List Pat) where
       also is-hash
       also tt)
 
-  -- the others: a constant, a witness, a variable, a block, a match of two arms
+  -- the others: a constant, a witness, a variable, a cast, a block, a match of two arms
   pub constant-is : Marked b i r EC → lower y (exprOf b i r) sc ≡ node.scribe r (x 1)
   unfolding asExpr lower
   constant-is k = rw (expr-at k)
@@ -212,6 +207,10 @@ module _ (b i : List ℕ) (r : ℕ) (y : Bool) (sc : List Pat) where
   unfolding asExpr lower
   variable-is k = rw (expr-at k)
 
+  pub cast-is : Marked b i r CK → lower y (exprOf b i r) sc ≡ lower y (exprOf b i (x 1)) sc
+  unfolding asExpr lower
+  cast-is k = rw (expr-at k)
+
   pub block-is : Marked b i r EB → lower y (exprOf b i r) sc ≡ statements y r (stmtsOf b i r 2 (x 1)) sc
   unfolding asExpr lower stmtsOf
   block-is k = rw (expr-at k)
@@ -221,8 +220,11 @@ module _ (b i : List ℕ) (r : ℕ) (y : Bool) (sc : List Pat) where
   match-is k = rw (expr-at k)
 
 -- every expression's mark is one of these, or a row's
-pub row-else : {b i : List ℕ} {r m : ℕ} → Marked b i r m → among (EC ∷ EW ∷ EV ∷ EB ∷ EM ∷ []) m ≡ false → T (among rowMarks m)
-row-else k e = rw (k .is, e) at (stands-mark (k .stands) (λ j. pick (among (EC ∷ EW ∷ EV ∷ EB ∷ EM ∷ []) j) true (among rowMarks j)) tt tt)
+abbrev pub otherMarks : List ℕ
+otherMarks = EC ∷ EW ∷ EV ∷ EB ∷ EM ∷ CK ∷ []
+
+pub row-else : {b i : List ℕ} {r m : ℕ} → Marked b i r m → among otherMarks m ≡ false → T (among rowMarks m)
+row-else k e = rw (k .is, e) at (stands-mark (k .stands) (λ j. pick (among otherMarks j) true (among rowMarks j)) tt tt)
 
 -- a statement of a block, and then the rest
 stop-then : {A B : Type 0} (r : ℕ) (k : A → Run B) → bind (stop bindings r) k ≡ stop bindings r

@@ -20,6 +20,7 @@ ghost use Rattle.compile.specs.Lower.{bindingAt, binding, lower, stateme
 ghost use Rattle.compile.specs.Cycle.{elementRun, elementsRun, rowRun, bodyRun, completeRun, callRun, secondRun, beginRun, stmtsOf, Enters, InSpan};
 use book::fault::Fault;
 use book::fault::Refusal;
+use book::format::CK;
 use book::format::EB;
 use book::format::EC;
 use book::format::EH;
@@ -76,6 +77,10 @@ pub fn expression(
         EV => variable(book, index, r, scope, nodes, next),
         EB => block(book, index, symbols, r, scope, nodes, next),
         EM => two_arms(book, index, symbols, r, scope, nodes, next),
+        CK => {
+            let e = field_at(book, index, r, 1);
+            expression(book, index, symbols, e, scope, nodes, next)
+        }
         _ => from_row(book, index, symbols, r, m, scope, nodes, next),
     }
 }

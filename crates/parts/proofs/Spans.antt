@@ -9,7 +9,7 @@ use native.Mathlib.Omega.{arith}
 use lib.Dec.{T, eqb, ltb, eqb→eq}
 use lib.ListN.{getD}
 use Rattle.laws.specs.Table.{both, below, among, all-below, both-left, both-right, _also_, every}
-use Rattle.book.specs.Format.{EXPRESSION, PATTERN, STATEMENT, ET, EL, E0, E1, EN, EB, EH, CJ, CL, CR, CD, CA, CP, CN, CK, CF, CQ, CY, CW, CH}
+use Rattle.book.specs.Format.{EXPRESSION, PATTERN, STATEMENT, ET, EL, E0, E1, EN, EB, EH, CJ, CL, CR, CD, CA, CP, CN, CF, CQ, CY, CW, CH}
 use Rattle.book.specs.Index.{mark, field, Lies}
 use Rattle.book.specs.Stands.{Stands}
 use Rattle.book.proofs.Roles.{Field, layout, counted, head-field, each-field}
@@ -61,7 +61,6 @@ placed b i r m t = every rowMarks (Placed b i r)
     also (λ is. by-head CA is (span 2 1 1) EXPRESSION tt)
     also (λ is. by-head CP is (span 0 1 0) EXPRESSION tt)
     also (λ is. by-head CN is (span 1 1 1) EXPRESSION tt)
-    also (λ is. by-head CK is (span 1 1 1) EXPRESSION tt)
     also (λ is. by-group CF is 3 1 0 EXPRESSION tt)
     also (λ is. by-head CQ is (span 3 1 2) EXPRESSION tt)
     also (λ is. by-head CY is (span 3 1 2) EXPRESSION tt)

@@ -39,7 +39,7 @@ pub record Power (n : ℕ) : Type 0 where
 
 -- the marks whose records are lowered from a row of elements
 abbrev pub rowMarks : List ℕ
-rowMarks = ET ∷ EL ∷ E0 ∷ E1 ∷ EN ∷ EH ∷ CJ ∷ CL ∷ CR ∷ CD ∷ CA ∷ CP ∷ CN ∷ CK ∷ CF ∷ CQ ∷ CY ∷ CW ∷ CH ∷ []
+rowMarks = ET ∷ EL ∷ E0 ∷ E1 ∷ EN ∷ EH ∷ CJ ∷ CL ∷ CR ∷ CD ∷ CA ∷ CP ∷ CN ∷ CF ∷ CQ ∷ CY ∷ CW ∷ CH ∷ []
 
 abbrev pub span : ℕ → ℕ → ℕ → Span
 span f s n = record { from = f; stride = s; count = n }
@@ -59,7 +59,6 @@ spans x =
     ∷ at CD (span 2 1 1)
     ∷ at CA (span 2 1 1)
     ∷ at CN (span 1 1 1)
-    ∷ at CK (span 1 1 1)
     ∷ at CF (span 3 1 (x 2))
     ∷ at CQ (span 3 1 2)
     ∷ at CY (span 3 1 2)

@@ -67,7 +67,6 @@ pub fn span_of(book: &[u8], index: &[u16], r: u16, m: u8) -> Span
         CD => spanning(2, 1, 1),
         CA => spanning(2, 1, 1),
         CN => spanning(1, 1, 1),
-        CK => spanning(1, 1, 1),
         CF => counted(book, index, r, 3, 1, 2),
         CQ => spanning(3, 1, 2),
         CY => spanning(3, 1, 2),

@@ -1,14 +1,13 @@
 -- The lowering of expressions: each function of the cycle does what its definition says, and together they are `lower`.
 -- Assumes nothing.
 use Prim.Native.Nat.{_+_, _*_, _-_, _≤_}
-use mathlib.Core.List.{[], _∷_}
 use mathlib.Core.Path.{_≡_, refl, sym, ap, _∙_}
 use native.Mathlib.Nat.{le-trans, le-of-lt}
 use native.Mathlib.Omega.{arith}
 use borrow.Author.Tests.{not-true, not-false}
 use lib.ListN.{length, length-set}
 use Rattle.laws.specs.Table.{free}
-use Rattle.book.specs.Format.{PATTERN, EXPRESSION, EC, EW, EV, EB, SA, SE, EM, EH, FN}
+use Rattle.book.specs.Format.{PATTERN, EXPRESSION, EC, EW, EV, EB, SA, SE, EM, EH, CK, FN}
 use Rattle.book.proofs.Standing.{stands-begins, head-lies, function-mark}
 use Rattle.named.proofs.Pens.{then, halt, closes}
 use Rattle.scope_bindings.specs.Scope.{scopeOf, ScopeStands, ofFunction}
@@ -17,7 +16,7 @@ use Rattle.parts.specs.declared.view.Span.{Span}
 use Rattle.parts.proofs.Marks.{lies, most, at-mark}
 use Rattle.parts.proofs.Spans.{stmt-lies, stmt-stands, stmt-below}
 use Rattle.compile.specs.Cycle.{callRun}
-use Rattle.compile.proofs.Shapes.{row-is, row-else, constant-is, witness-is, variable-is, block-is}
+use Rattle.compile.proofs.Shapes.{otherMarks, row-is, row-else, cast-is, constant-is, witness-is, variable-is, block-is}
 use Rattle.compile.proofs.Steps.{Suffices, suffices-start, suffices-next, suffices-halt, suffices-done}
 use Rattle.compile.proofs.Blocks.{Begun, begun-start, begun-next, begun-halt, begun-end, begun-end-halt}
 use Rattle.compile.proofs.Facts.{head-is, head-less, in-span, does-mark, does-stands, does-below, value-stands, value-below, inner-stands, arm-done, arm-full, fn-lies, fn-stands, fn-less, fn-done, end-lies, end-is, end-less, begin-does, begin-assign, begin-halt, element-plain, element-arm, functional-lies, functional-stands, functional-below, body-plain, body-fold, body-halt, choose-then, choose-halt, complete-call, complete-wrap, lies-after, arm-names, arm-body, arm-less, marked-as, marked, end-unit, end-expr, row-then, row-halt, second-is, arms-is, enters-is, near-most}
@@ -291,7 +290,7 @@ abbrev end-claims : ℕ → end-lts.Claims
 end-claims t = (field-at-reads.Asked, field-at-reads.Learnt, pen-at-reads.Asked, pen-at-reads.Learnt, put-reads.Asked, put-reads.Learnt, answer-of-reads.Asked, answer-of-reads.Learnt, expression-below t, expression.Post)
 
 abbrev expression-claims : ℕ → expression-lts.Claims
-expression-claims t = (mark-at-reads.Asked, mark-at-reads.Learnt, constant-reads.Asked, constant-reads.Learnt, witness-reads.Asked, witness-reads.Learnt, variable-reads.Asked, variable-reads.Learnt, block-below t, block.Post, two-arms-below t, two-arms.Post, from-row-below t, from-row.Post)
+expression-claims t = (mark-at-reads.Asked, mark-at-reads.Learnt, constant-reads.Asked, constant-reads.Learnt, witness-reads.Asked, witness-reads.Learnt, variable-reads.Asked, variable-reads.Learnt, block-below t, block.Post, two-arms-below t, two-arms.Post, field-at-reads.Asked, field-at-reads.Learnt, expression-below t, expression.Post, from-row-below t, from-row.Post)
 
 abbrev from-row-claims : ℕ → from-row-lts.Claims
 from-row-claims t = (row-below t, row.Post, complete-below t, complete.Post)
@@ -667,8 +666,14 @@ expression-block-requires t c κs = ((omega (arith, c .before .before .before .b
 expression-two-arms-requires : (t : ℕ) → expression-lts.Need-two-arms-requires (expression-claims t) (expression-at t) expression.Post
 expression-two-arms-requires t c κs = ((omega (arith, c .before .before .before .before .before .before .pre .0)), ((marked (c .before .before .before .before .before .before .pre .1 .0) (c .before .before .mark-at .ensures) EM (c .before .match .keys5)), (c .before .before .before .before .before .before .pre .1 .1)))
 
+expression-field-at-requires : (t : ℕ) → expression-lts.Need-field-at-requires (expression-claims t) (expression-at t) expression.Post
+expression-field-at-requires t c κs = lies (marked (c .before .before .before .before .before .pre .1 .0) (c .before .mark-at .ensures) CK (c .match .keys6)) 1 tt
+
+expression-expression-requires : (t : ℕ) → expression-lts.Need-expression-requires (expression-claims t) (expression-at t) expression.Post
+expression-expression-requires t c κs = ((omega (arith, c .before .before .before .before .before .before .before .pre .0, head-less (marked (c .before .before .before .before .before .before .before .pre .1 .0) (c .before .before .before .mark-at .ensures) CK (c .before .before .match .keys6)) 1 EXPRESSION tt (c .before .field-at .ensures))), (head-is (marked (c .before .before .before .before .before .before .before .pre .1 .0) (c .before .before .before .mark-at .ensures) CK (c .before .before .match .keys6)) 1 EXPRESSION tt (c .before .field-at .ensures), (c .before .before .before .before .before .before .before .pre .1 .1)))
+
 expression-from-row-requires : (t : ℕ) → expression-lts.Need-from-row-requires (expression-claims t) (expression-at t) expression.Post
-expression-from-row-requires t c κs = ((omega (arith, c .before .before .before .before .before .before .pre .0)), (marked-as (c .before .before .before .before .before .before .pre .1 .0) (c .before .before .mark-at .ensures), ((c .before .before .before .before .before .before .pre .1 .1), row-else (marked-as (c .before .before .before .before .before .before .pre .1 .0) (c .before .before .mark-at .ensures)) (free (EC ∷ EW ∷ EV ∷ EB ∷ EM ∷ []) _ Unit (c .before .match .rest) .1))))
+expression-from-row-requires t c κs = ((omega (arith, c .before .before .before .before .before .before .pre .0)), (marked-as (c .before .before .before .before .before .before .pre .1 .0) (c .before .before .mark-at .ensures), ((c .before .before .before .before .before .before .pre .1 .1), row-else (marked-as (c .before .before .before .before .before .before .pre .1 .0) (c .before .before .mark-at .ensures)) (free otherMarks _ Unit (c .before .match .rest) .1))))
 
 expression-same-length : (t : ℕ) → expression-lts.Need-same-length (expression-claims t) (expression-at t) expression.Post
 expression-same-length t c = search needs
@@ -704,7 +709,13 @@ expression-same-length-6 : (t : ℕ) → expression-lts.Need-same-length-6 (expr
 expression-same-length-6 t c = search needs
 
 expression-returns-6 : (t : ℕ) → expression-lts.Need-returns-6 (expression-claims t) (expression-at t) expression.Post
-expression-returns-6 t c = (c .before .before .from-row .ensures)
+expression-returns-6 t c = rw (cast-is _ _ _ _ _ (marked (c .before .before .before .before .before .before .before .before .before .before .pre .1 .0) (c .before .before .before .before .before .before .mark-at .ensures) CK (c .before .before .before .before .before .match .keys6)), ← (c .before .before .before .before .field-at .ensures)) (c .before .before .expression .ensures)
+
+expression-same-length-7 : (t : ℕ) → expression-lts.Need-same-length-7 (expression-claims t) (expression-at t) expression.Post
+expression-same-length-7 t c = search needs
+
+expression-returns-7 : (t : ℕ) → expression-lts.Need-returns-7 (expression-claims t) (expression-at t) expression.Post
+expression-returns-7 t c = (c .before .before .from-row .ensures)
 
 from-row-row-requires : (t : ℕ) → from-row-lts.Need-row-requires (from-row-claims t) (from-row-at t) from-row.Post
 from-row-row-requires t c κs = ((omega (arith, c .before .before .before .before .pre .0)), ((c .before .before .before .before .pre .1 .0), ((c .before .before .before .before .pre .1 .1 .0), (c .before .before .before .before .pre .1 .1 .1))))
@@ -1026,6 +1037,8 @@ pub +arm+begin+block+body+call+choose+complete+element+elements+end+expression+f
     (expression-variable-requires t)
     (expression-block-requires t)
     (expression-two-arms-requires t)
+    (expression-field-at-requires t)
+    (expression-expression-requires t)
     (expression-from-row-requires t)
     (expression-same-length t)
     (expression-returns t)
@@ -1038,7 +1051,9 @@ pub +arm+begin+block+body+call+choose+complete+element+elements+end+expression+f
     (expression-same-length-5 t)
     (expression-returns-5 t)
     (expression-same-length-6 t)
-    (expression-returns-6 t))
+    (expression-returns-6 t)
+    (expression-same-length-7 t)
+    (expression-returns-7 t))
     (λ t. from-row-lts.spec (from-row-claims t) (from-row-at t) from-row.Post
     (from-row-row-requires t)
     (from-row-enum-known-a t)

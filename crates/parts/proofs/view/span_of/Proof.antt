@@ -3,7 +3,7 @@
 use native.Mathlib.Omega.{arith}
 use mathlib.Core.Path.{refl}
 use Rattle.laws.specs.Table.{rest}
-use Rattle.book.specs.Format.{ET, EL, E0, E1, EN, EH, CJ, CL, CR, CD, CA, CN, CK, CF, CQ, CY, CW, CH}
+use Rattle.book.specs.Format.{ET, EL, E0, E1, EN, EH, CJ, CL, CR, CD, CA, CN, CF, CQ, CY, CW, CH}
 use Rattle.book.specs.Index.{field}
 use Rattle.parts.specs.Parts.{span, spans, spanAt}
 use Rattle.parts.proofs.Marks.{lies, most, at-mark, spanned-as, spanned}
@@ -29,12 +29,11 @@ span-of-spec =
     (λ c κs. search needs)
     (λ c κs. search needs)
     (λ c κs. search needs)
-    (λ c κs. search needs)
-    (λ c κs. lies (at-mark (c .before .before .before .pre) CF (c .match .keys14)) 2 tt)
-    (λ c κs. search needs)
+    (λ c κs. lies (at-mark (c .before .before .before .pre) CF (c .match .keys13)) 2 tt)
     (λ c κs. search needs)
     (λ c κs. search needs)
-    (λ c κs. lies (at-mark (c .before .before .before .pre) CH (c .match .keys18)) 2 tt)
+    (λ c κs. search needs)
+    (λ c κs. lies (at-mark (c .before .before .before .pre) CH (c .match .keys17)) 2 tt)
     (λ c κs. search needs)
     (λ c. spanned (c .before .before .before .before .pre) ET (c .before .match .keys1) (c .counted .ensures) (most (at-mark (c .before .before .before .before .pre) ET (c .before .match .keys1)) 1 tt refl) tt)
     (λ c. spanned (c .before .before .before .before .pre) EL (c .before .match .keys2) (c .counted2 .ensures) (list-most (at-mark (c .before .before .before .before .pre) EL (c .before .match .keys2))) tt)
@@ -48,10 +47,9 @@ span-of-spec =
     (λ c. spanned (c .before .before .before .before .pre) CD (c .before .match .keys10) (c .spanning5 .ensures) (omega arith) tt)
     (λ c. spanned (c .before .before .before .before .pre) CA (c .before .match .keys11) (c .spanning6 .ensures) (omega arith) tt)
     (λ c. spanned (c .before .before .before .before .pre) CN (c .before .match .keys12) (c .spanning7 .ensures) (omega arith) tt)
-    (λ c. spanned (c .before .before .before .before .pre) CK (c .before .match .keys13) (c .spanning8 .ensures) (omega arith) tt)
-    (λ c. spanned (c .before .before .before .before .pre) CF (c .before .match .keys14) (c .counted6 .ensures) (most (at-mark (c .before .before .before .before .pre) CF (c .before .match .keys14)) 2 tt refl) tt)
-    (λ c. spanned (c .before .before .before .before .pre) CQ (c .before .match .keys15) (c .spanning9 .ensures) (omega arith) tt)
-    (λ c. spanned (c .before .before .before .before .pre) CY (c .before .match .keys16) (c .spanning10 .ensures) (omega arith) tt)
-    (λ c. spanned (c .before .before .before .before .pre) CW (c .before .match .keys17) (c .spanning11 .ensures) (omega arith) tt)
-    (λ c. spanned (c .before .before .before .before .pre) CH (c .before .match .keys18) (c .counted7 .ensures) (most (at-mark (c .before .before .before .before .pre) CH (c .before .match .keys18)) 2 tt refl) tt)
-    (λ c. spanned-as (span 0 1 0) (rest (spans (field (c .before .before .before .before .args .book .now) (c .before .before .before .before .args .index .now) (c .before .before .before .before .args .r))) (c .before .before .before .before .args .m) (span 0 1 0) Unit (c .before .match .rest) .1) (c .spanning12 .ensures) (omega arith) tt))
+    (λ c. spanned (c .before .before .before .before .pre) CF (c .before .match .keys13) (c .counted6 .ensures) (most (at-mark (c .before .before .before .before .pre) CF (c .before .match .keys13)) 2 tt refl) tt)
+    (λ c. spanned (c .before .before .before .before .pre) CQ (c .before .match .keys14) (c .spanning8 .ensures) (omega arith) tt)
+    (λ c. spanned (c .before .before .before .before .pre) CY (c .before .match .keys15) (c .spanning9 .ensures) (omega arith) tt)
+    (λ c. spanned (c .before .before .before .before .pre) CW (c .before .match .keys16) (c .spanning10 .ensures) (omega arith) tt)
+    (λ c. spanned (c .before .before .before .before .pre) CH (c .before .match .keys17) (c .counted7 .ensures) (most (at-mark (c .before .before .before .before .pre) CH (c .before .match .keys17)) 2 tt refl) tt)
+    (λ c. spanned-as (span 0 1 0) (rest (spans (field (c .before .before .before .before .args .book .now) (c .before .before .before .before .args .index .now) (c .before .before .before .before .args .r))) (c .before .before .before .before .args .m) (span 0 1 0) Unit (c .before .match .rest) .1) (c .spanning11 .ensures) (omega arith) tt))
