@@ -3,4 +3,3 @@ pub mod Parts
 pub mod Row
 pub mod Path
 pub mod Partition
-pub mod Edges

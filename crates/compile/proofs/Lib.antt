@@ -4,3 +4,4 @@ pub mod Blocks
 pub mod Facts
 pub mod Wholes
 pub mod Fits
+pub mod Edges

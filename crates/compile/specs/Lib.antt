@@ -1,3 +1,4 @@
 pub mod Lower
 pub mod Cycle
 pub mod Whole
+pub mod Edges
