@@ -1,29 +1,28 @@
 -- Laws of a block's statements: begun one at a time, ended from the last on.
 -- Assumes nothing.
-use Prim.Native.Nat.{ℕ, zero, suc, _+_, _*_, _-_, _≤_, _<_}
-use mathlib.Core.Bool.{Bool, true, false}
-use mathlib.Core.Path.{_≡_, refl, sym, ap, _∙_}
-use mathlib.Core.List.{List, [], _∷_}
+use Prim.Native.Nat.{ℕ, zero, suc, _+_, _-_, _≤_, _<_}
+use mathlib.Core.Bool.{Bool}
+use mathlib.Core.Path.{_≡_, refl, sym, ap}
+use mathlib.Core.List.{List}
 use native.Mathlib.Omega.{arith}
 use native.Mathlib.Numerals.{add-one}
 use borrow.Author.Tests.{eq-eqb, le-ltb}
 use lib.ListN.{length, getD, set}
 use lib.Seq.{getD-set-same, getD-set-other}
 use lib.Dec.{eqb, ltb}
-use Rattle.laws.specs.Table.{pick}
 use Rattle.book.specs.Format.{STATEMENT, SA}
 use Rattle.book.specs.Index.{mark, field}
 use Rattle.book.specs.Stands.{Stands}
-use Rattle.book.specs.Tree.{Pat, Stmts, tree, asStmt, group, stmtsAt, lastAt}
+use Rattle.book.specs.Tree.{Pat, tree, asStmt, group}
 use Rattle.book.specs.declared.fault.Refusal.{Refusal}
-use Rattle.named.specs.Trace.{Run, pure, bind, stop, bindings}
-use Rattle.named.specs.Draws.{Done, Fate, Gives}
+use Rattle.named.specs.Trace.{bind, bindings}
+use Rattle.named.specs.Draws.{Done, Fate}
 use Rattle.named.specs.declared.node.Stored.{Stored}
 use Rattle.named.specs.declared.node.Stored.the-variants as answers
 use Rattle.named.proofs.Runs.{bind-bind, bind-done}
 use Rattle.named.proofs.Pens.{then, halt, never-gives}
 use Rattle.parts.specs.Parts.{closeRun, closeAll}
-use Rattle.compile.specs.Lower.{binding, lower, statements}
+use Rattle.compile.specs.Lower.{statements}
 use Rattle.compile.specs.Cycle.{beginRun, entered, stmtsOf}
 use Rattle.compile.proofs.Shapes.{stmt-is}
 

@@ -28,9 +28,9 @@ use Rattle.named.specs.declared.node.Filled.{Filled}
 use Rattle.named.specs.declared.node.Filled.the-variants as fillings
 use Rattle.named.specs.Combinators.{unit}
 use Rattle.named.proofs.Pens.{then, halt, all-then, all-halt}
-use Rattle.scope_bindings.specs.Scope.{bound, scopeOf, ScopeStands, Binds, ofPattern, ofFunction, Roots, Inserts}
+use Rattle.scope_bindings.specs.Scope.{bound, scopeOf, ScopeStands, ofPattern, Roots, Inserts}
 use Rattle.scope_bindings.specs.declared.ScopeBindings.{ScopeBindings}
-use Rattle.scope_bindings.proofs.Scopes.{bound-pattern, scope-count, scope-root, root-stands, scope-insert, insert-stands}
+use Rattle.scope_bindings.proofs.Scopes.{bound-pattern, scope-count, scope-root, scope-insert, insert-stands}
 use Rattle.recipes.specs.Calls as calls
 use Rattle.parts.specs.Joins.{matched, chosen}
 use Rattle.parts.specs.Parts.{Marked, Spanned, rowMarks, isCall, isFunctional, gatherRun, wrapRun, foldRun, plainRun}

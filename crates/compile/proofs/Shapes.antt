@@ -1,8 +1,8 @@
 -- The lowering of a tree by its record: what the functions of the cycle do is, mark by mark, what `lower` says.
 -- Assumes nothing.
-use Prim.Native.Nat.{ℕ, zero, suc, _+_, _*_, _-_, _≤_, _<_}
+use Prim.Native.Nat.{ℕ, zero, suc, _+_, _*_, _-_}
 use mathlib.Core.Bool.{Bool, true, false}
-use mathlib.Core.Path.{_≡_, refl, sym, ap, ap₂, _∙_}
+use mathlib.Core.Path.{_≡_, refl, sym, ap, _∙_}
 use mathlib.Core.List.{List, [], _∷_}
 use native.Mathlib.Omega.{arith}
 use native.Mathlib.Nat.{add-zero}
@@ -10,11 +10,11 @@ use borrow.Author.Tests.{eq-eqb, ne-eqb}
 use lib.ListN.{length}
 use lib.Dec.{T, eqb, ltb, eqb→eq}
 use Rattle.laws.specs.Table.{pick, among, every, _also_}
-use Rattle.array.specs.Split.{topOf, splitOf, leastPower, notBelow}
-use Rattle.book.specs.Format.{EXPRESSION, STATEMENT, FUNCTION, EC, EW, EV, ET, EL, E0, E1, EN, EB, SA, SE, EM, EH, CJ, CL, CR, CD, CA, CP, CN, CK, CF, CQ, CY, CW, CH, FN}
+use Rattle.array.specs.Split.{splitOf, leastPower, notBelow}
+use Rattle.book.specs.Format.{STATEMENT, FUNCTION, EC, EW, EV, ET, EL, E0, E1, EN, EB, SA, SE, EM, EH, CJ, CL, CR, CD, CA, CP, CN, CK, CF, CQ, CY, CW, CH, FN}
 use Rattle.book.specs.Index.{mark, field}
 use Rattle.book.specs.Stands.{Stands}
-use Rattle.book.specs.Tree.{Tree, Pat, Expr, Exprs, Stmts, tree, typeOf, exprOf, patternOf, funOf, asType, asExpr, asPattern, asStmt, asFun, group, exprsAt, armsAt, partsAt, paramsAt, stmtsAt, lastAt, maker}
+use Rattle.book.specs.Tree.{Tree, Pat, Stmts, tree, exprOf, patternOf, funOf, asExpr, asPattern, asStmt, asFun, group, exprsAt, armsAt, partsAt, maker}
 use Rattle.book.proofs.Standing.{stands-tree, stands-mark, function-mark}
 use Rattle.named.specs.Trace.{Run, pure, graft, bind, stop, bindings}
 use Rattle.pattern.specs.Find.{paramsOf}
@@ -23,9 +23,9 @@ use Rattle.scope_bindings.proofs.Scopes.{bound-function}
 use Rattle.named.specs.Combinators as node
 use Rattle.named.proofs.Runs.{bind-bind, bind-pure, bind-done}
 use Rattle.named.proofs.Builds.{joins-none, joins-one, joins-step}
-use Rattle.parts.specs.Joins.{listed, matched, chosen, finished}
+use Rattle.parts.specs.Joins.{matched}
 use Rattle.parts.specs.Parts.{Marked, rowMarks, spanAt, isCall, isFunctional, symbolAt, gatherRun, wrapRun, foldRun, plainRun, widthsRow, closeRun}
-use Rattle.compile.specs.Lower.{binding, called, widths, lower, lowers, words, arms, statements, body}
+use Rattle.compile.specs.Lower.{binding, widths, lower, lowers, words, arms, statements, body}
 use Rattle.compile.specs.Cycle.{elementRun, elementsRun, rowRun, bodyRun, callRun, completeRun, beginRun, entered, stmtsOf}
 
 -- an element and then the others

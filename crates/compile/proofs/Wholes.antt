@@ -1,6 +1,6 @@
 -- From the root's lowering on a clear table to LOWER's answer and table.
 -- Assumes nothing.
-use Prim.Native.Nat.{ℕ, zero, suc, _-_, _<_}
+use Prim.Native.Nat.{ℕ, _-_, _<_}
 use mathlib.Core.Bool.{Bool}
 use mathlib.Core.List.{List, [], _∷_}
 use mathlib.Core.Path.{_≡_, refl, sym, ap, subst, _∙_}
@@ -10,14 +10,12 @@ use Rattle.book.specs.Format.{EXPRESSION}
 use Rattle.book.specs.Read.{readOf, indexOf}
 use Rattle.book.specs.Stands.{Stands}
 use Rattle.book.specs.Tree.{ignore, exprOf}
-use Rattle.book.specs.Valid.{Valid}
 use Rattle.book.specs.declared.fault.ReadAnswer.{ReadAnswer}
 use Rattle.book.specs.declared.fault.ReadAnswer.the-variants as reads
 use Rattle.book.specs.declared.fault.Refusal.{Refusal}
 use Rattle.book.proofs.Established.{answer-valid}
-use Rattle.named.specs.Trace.{Run}
-use Rattle.named.specs.Cut.{Out, made, refused, cut, room, image}
-use Rattle.named.specs.Draws.{Fate, Done, Gives, Stops}
+use Rattle.named.specs.Cut.{made, refused, cut, room, image}
+use Rattle.named.specs.Draws.{Fate, Done}
 use Rattle.named.specs.declared.node.Stored.{Stored}
 use Rattle.named.specs.declared.node.Stored.the-variants as stores
 use Rattle.named.proofs.Images.{zeros, clear-gives, clear-stops}
@@ -25,7 +23,7 @@ use Rattle.scope_bindings.specs.Scope.{IGNORED, scopeOf, ScopeStands, ignored, 
 use Rattle.scope_bindings.specs.declared.ScopeBindings.{ScopeBindings}
 use Rattle.scope_bindings.proofs.Scopes.{bound-ignored, scope-root, root-stands}
 use Rattle.compile.specs.Lower.{lower}
-use Rattle.compile.specs.Whole.{traceOf, lowering, answerOf, lowerOf, tableOf, Lowered}
+use Rattle.compile.specs.Whole.{traceOf, lowering, lowerOf, tableOf, Lowered}
 use Rattle.compile.specs.declared.LowerAnswer.{LowerAnswer}
 use Rattle.compile.specs.declared.LowerAnswer.the-variants as answers
 

@@ -1,21 +1,20 @@
 // The cycle of lowering: an expression, its row of elements, its block, its call. Every step goes to an earlier record, or at the same
 // record one step further.
 ghost use mathlib.Core.Path.{_≡_};
-ghost use mathlib.Core.Bool.{true, false};
+ghost use mathlib.Core.Bool.{true};
 ghost use mathlib.Core.List.{_∷_};
-ghost use Prim.Native.Nat.{_+_, _*_, _<_, _≤_};
+ghost use Prim.Native.Nat.{_+_, _≤_};
 ghost use lib.Dec.{T};
 ghost use lib.ListN.{length, take};
 ghost use Rattle.laws.specs.Table.{among};
 ghost use Rattle.book.specs.Format.{EXPRESSION, PATTERN, STATEMENT, FUNCTION, EV, EB, EM, EH};
-ghost use Rattle.book.specs.Index.{mark, field};
+ghost use Rattle.book.specs.Index.{field};
 ghost use Rattle.book.specs.Stands.{Stands};
 ghost use Rattle.book.specs.Tree.{exprOf, patternOf, funOf};
 ghost use Rattle.named.specs.Draws.{Done, Fills};
 ghost use Rattle.recipes.specs.Calls.{paired};
 ghost use Rattle.scope_bindings.specs.Scope.{variable, scopeOf, ScopeStands};
-ghost use Rattle.parts.specs.Joins.{chosen};
-ghost use Rattle.parts.specs.Parts.{Marked, Spanned, rowMarks, isCall, symbolAt};
+ghost use Rattle.parts.specs.Parts.{Marked, Spanned, rowMarks, isCall};
 ghost use Rattle.compile.specs.Lower.{bindingAt, binding, lower, statements, body};
 ghost use Rattle.compile.specs.Cycle.{elementRun, elementsRun, rowRun, bodyRun, completeRun, callRun, secondRun, beginRun, stmtsOf, Enters, InSpan};
 use book::fault::Fault;

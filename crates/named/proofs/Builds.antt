@@ -2,22 +2,21 @@
 -- Assumes nothing.
 use Prim.Native.Nat.{ℕ, zero, suc, _+_, _-_, _≤_, _<_}
 use mathlib.Core.Bool.{Bool, true, false}
-use mathlib.Core.Path.{_≡_, refl, sym, ap, ap₂, _∙_}
+use mathlib.Core.Path.{_≡_, sym, ap, _∙_}
 use mathlib.Core.List.{List, [], _∷_, map}
 use native.Mathlib.Omega.{arith}
 use lib.ListN.{length, getD, take, drop, length-take, length-drop}
 use lib.Seq.{take-nil, drop-cons, drop-length, take-take, drop-drop}
 use Rattle.laws.specs.Rows.{map-length, map-take, map-drop}
 use Rattle.array.specs.Split.{splitOf}
-use Rattle.array.specs.Path.{onLeft, onRight, path}
+use Rattle.array.specs.Path.{path}
 use Rattle.array.specs.Row.{row}
 use Rattle.array.proofs.Paths.{path-one, path-left, path-right}
 use Rattle.array.proofs.Rows.{row-none, row-one, row-step}
-use Rattle.named.specs.Trace.{Run, pure, bind, emit}
-use Rattle.named.specs.Combinators.{iden, unit, injl, injr, pair, bit, kinds, wraps, select, joined, joins}
+use Rattle.named.specs.Trace.{pure, bind, emit}
+use Rattle.named.specs.Combinators.{iden, unit, injl, injr, bit, kinds, wraps, select, joined, joins}
 use Rattle.named.specs.Draws.{Draws}
 use Rattle.named.specs.declared.node.Pen.{Pen}
-use Rattle.named.proofs.Runs.{bind-bind, bind-pure}
 use Rattle.named.proofs.Pens.{draw-then, draw-pure, draw-there}
 
 -- by the bit

@@ -1,17 +1,17 @@
 -- From a run on a clear table to the table's bytes.
 -- Assumes nothing.
-use Prim.Native.Nat.{ℕ, zero, suc, _+_, _*_, _-_, _/_, min, _≤_, _<_}
-use mathlib.Core.Path.{_≡_, refl, sym, ap, _∙_}
+use Prim.Native.Nat.{ℕ, zero, suc, _+_, _*_, _-_, _≤_}
+use mathlib.Core.Path.{_≡_, refl, sym, _∙_}
 use mathlib.Core.List.{List, [], _∷_, _++_, append-nil}
 use native.Mathlib.Omega.{arith}
 use native.Mathlib.Nat.{zero-add}
-use lib.ListN.{length, drop, replicate, length-replicate, length-append}
+use lib.ListN.{length, drop, replicate, length-replicate}
 use lib.Seq.{sets-eq, drop-length}
 use Rattle.book.specs.declared.fault.Refusal.{Refusal}
 use Rattle.named.specs.Trace.{Node, Trace, done, stopped, store, Run}
-use Rattle.named.specs.Cut.{Out, made, refused, after, cut, room, encode, image}
+use Rattle.named.specs.Cut.{made, refused, after, cut, room, encode, image}
 use Rattle.named.specs.Draws.{stored, comes, Gives, Stops}
-use Rattle.named.proofs.Runs.{never, after-made}
+use Rattle.named.proofs.Runs.{after-made}
 
 -- a table of zeros
 abbrev pub zeros : ℕ → List ℕ

@@ -12,7 +12,7 @@ use lib.Seq.{sets, length-sets}
 use Rattle.book.specs.Faults.{refusal}
 use Rattle.book.specs.declared.fault.Refusal.{Refusal}
 use Rattle.book.specs.declared.fault.Fault.the-variants.{Room}
-use Rattle.named.specs.Trace.{Node, Trace, done, stopped, store, Run, pure, graft, bind, emit, Stop, stop}
+use Rattle.named.specs.Trace.{Node, done, Run, pure, bind, emit, Stop, stop}
 use Rattle.named.specs.Cut.{Out, made, refused, after, cut, room, encode, faultOf}
 use Rattle.named.specs.Draws.{stored, comes, Gives, Stops, Fate, Done, FateAll, Fills, Draws, Opens, Closes}
 use Rattle.named.specs.declared.node.Pen.{Pen}

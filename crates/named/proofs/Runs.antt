@@ -1,12 +1,11 @@
 -- Laws of runs and of their cuts.
 -- Assumes nothing.
-use Prim.Native.Nat.{ℕ, zero, suc, _+_, _*_, _-_, _≤_}
+use Prim.Native.Nat.{ℕ, zero, suc, _+_, _*_, _-_}
 use mathlib.Core.Path.{_≡_, refl, ap, _∙_}
 use mathlib.Core.List.{List, [], _∷_, _++_, append-assoc}
 use native.Mathlib.Omega.{arith}
 use native.Mathlib.Nat.{add-zero}
-use lib.ListN.{length, length-append}
-use lib.Seq.{sets}
+use lib.ListN.{length}
 use Rattle.book.specs.declared.fault.Refusal.{Refusal}
 use Rattle.named.specs.Trace.{Node, Trace, done, stopped, store, Run, pure, graft, bind}
 use Rattle.named.specs.Cut.{Out, made, refused, after, cut, encode}

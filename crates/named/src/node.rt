@@ -1,8 +1,5 @@
 // Nodes: five bytes each in a lent table, stored one after another.
-ghost use mathlib.Core.Path.{_≡_};
-ghost use mathlib.Core.Bool.{true, false};
 ghost use Rattle.named.specs.Trace.{emit};
-ghost use Rattle.named.specs.Combinators.{iden, unit, injl, injr, take, drop, comp, case, pair, assertl, assertr, fail, witness, scribe, jet};
 ghost use Rattle.named.specs.Draws.{Draws, Opens, Closes};
 use book::fault::Fault;
 use book::fault::Refusal;

@@ -104,9 +104,6 @@ module _ {b i : List ℕ} {r m : ℕ} (g : Marked b i r m) (is : m ≡ EH) {p : 
   pub arm-stands : Stands b i (field b i r (p .from + p .stride * k - 1)) PATTERN
   arm-stands = field-stands (g .stands) arm-field tt
 
-  pub arm-below : field b i r (p .from + p .stride * k - 1) < r
-  arm-below = field-below (g .stands) arm-field tt
-
 -- statement k of a block
 module _ {b i : List ℕ} {r : ℕ} (g : Marked b i r EB) (k : ℕ) (h : k < field b i r 1) where
   stmt-field : Field b i r (2 + k) STATEMENT

@@ -1,6 +1,5 @@
 // What a record's fields say, by its mark.
 ghost use mathlib.Core.Path.{_≡_};
-ghost use mathlib.Core.Bool.{true, false};
 ghost use Prim.Native.Nat.{_+_};
 ghost use Rattle.book.specs.Index.{field, Lies};
 ghost use Rattle.parts.specs.Parts.{Marked, Spanned, isCall, isFunctional, span};

@@ -1,7 +1,6 @@
 // The loop over a counter: the original's row of tasks, done from its end on.
 ghost use mathlib.Core.Path.{_≡_};
-ghost use mathlib.Core.Bool.{true, false};
-ghost use Prim.Native.Nat.{_+_, _-_, _*_, _^_, _<_, _≤_};
+ghost use Prim.Native.Nat.{_-_, _*_, _^_, _<_, _≤_};
 ghost use lib.ListN.{take};
 ghost use Rattle.array.specs.Split.{topOf};
 ghost use Rattle.named.specs.Draws.{Draws};

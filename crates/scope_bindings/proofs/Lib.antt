@@ -1,3 +1,2 @@
 pub mod Scopes
-pub mod Environment
 mod Reaches

@@ -2,7 +2,6 @@
 -- Assumes nothing.
 use Rattle.named.proofs.Pens.{closes}
 use Rattle.compile.proofs.Steps.{at-full, at-fits}
-use native.Mathlib.Omega.{arith}
 use borrow.Author.Needs.{needs}
 use Rattle.compile.proofs.cycle.bind_value.Statement.{statement}
 use Rattle.compile.proofs.cycle.bind_value.Tie as tie

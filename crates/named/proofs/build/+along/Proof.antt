@@ -1,6 +1,5 @@
 -- `along` meets its contract: one wrap more than for the part that the element is in.
 -- Assumes nothing.
-use native.Mathlib.Omega.{arith}
 use Rattle.named.proofs.Builds.{along-one, along-left, along-right}
 use borrow.Author.Needs.{needs}
 use Prim.Native.Nat.{ℕ, _<_}

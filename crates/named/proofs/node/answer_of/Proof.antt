@@ -1,7 +1,6 @@
 -- `answer_of` meets its contract: by the pen's flag.
 -- Assumes nothing.
 use Rattle.named.proofs.Pens.{closed-full, closed-root}
-use borrow.Author.Needs.{needs}
 use Rattle.named.proofs.node.answer_of.Statement.{statement}
 use Rattle.named.proofs.node.answer_of.Tie as tie
 
