@@ -38,17 +38,20 @@ widths (moreParts w e ps) = w ∷ widths ps
 
 -- what is lowered in a scope, whose newest binding comes first; y says whether symbols are asked for
 unfoldable mutual
-  -- document 01, Stored order, construct by construct
+  -- document 01, Stored order. A constant is a scribe leaf; a witness has its name and type; a variable is a selector
   pub lower : Bool → Expr → List Pat → Run ℕ
   lower y (constant r t v u w) sc = node.scribe r v
   lower y (witness r t k x) sc = node.witness r x k
   lower y (variable r t x) sc = scope.variable r x sc
+  -- Balanced trees: a row's or list's elements, then what joins them; a variant is its payload along its path
   lower y (tuple r t es) sc = bind (lowers y es sc) (λ xs. node.joins r node.PAIR xs)
   lower y (list r t n es) sc = bind (lowers y es sc) (λ xs. listed r n xs)
   lower y (inLeft r t e) sc = bind (lower y e sc) (λ a. node.injl r a)
   lower y (inRight r t e) sc = bind (lower y e sc) (λ a. node.injr r a)
   lower y (variant r t k n es) sc = bind (bind (lowers y es sc) (λ xs. node.joins r node.PAIR xs)) (λ a. node.wraps r (node.kinds node.INJL node.INJR (path n k)) a)
+  -- a block is its statements and its end
   lower y (block r t ss) sc = statements y r ss sc
+  -- match: left arm, right arm, scrutinee, iden, pair, case, comp. Enum match: arms, tree of cases, scrutinee, iden, pair, comp
   lower y (match r t e p l q g) sc =
       bind (binding r sc (lower y l (p ∷ sc))) (λ a.
       bind (binding r sc (lower y g (q ∷ sc))) (λ b.
@@ -57,6 +60,7 @@ unfoldable mutual
       bind (arms y r cs sc) (λ xs.
       bind (node.joins r node.CASE xs) (λ k.
       bind (lower y e sc) (λ s. chosen r s k)))
+  -- calls: argument tuple, body, comp; Panic's body is fail, Debug's iden, Assert's jet 0; TypeCast is its argument
   lower y (jet r t s j es) sc = called y r s (bind (lowers y es sc) (λ xs. node.joins r node.PAIR xs)) (node.jet r j)
   lower y (unwrapLeft r t s e) sc = called y r s (lower y e sc) (calls.unwrapLeft r)
   lower y (unwrapRight r t s e) sc = called y r s (lower y e sc) (calls.unwrapRight r)
@@ -65,11 +69,13 @@ unfoldable mutual
   lower y (panic r t s) sc = called y r s (node.unit r) (node.fail r)
   lower y (isNone r t e) sc = called y r 0 (lower y e sc) (calls.isNone r)
   lower y (cast r t e) sc = lower y e sc
+  -- each call lowers its function's body anew; a recipe shares it
   lower y (call r t f es) sc = called y r 0 (bind (lowers y es sc) (λ xs. node.joins r node.PAIR xs)) (body y f)
   lower y (listFold r t f n e a) sc = called y r 0 (node.joined (node.pair r) (lower y e sc) (lower y a sc)) (bind (body y f) (λ g. lists.listFold r n g))
   lower y (arrayFold r t f n e a) sc = called y r 0 (node.joined (node.pair r) (lower y e sc) (lower y a sc)) (bind (body y f) (λ g. arrays.arrayFold r n g))
   lower y (forWhile r t f w a x) sc = called y r 0 (node.joined (node.pair r) (lower y a sc) (lower y x sc)) (bind (body y f) (λ g. loops.forWhile r (topOf w) g))
   lower y (hash r t s ps) sc = called y r s (bind (words y ps sc) (λ xs. node.joins r node.PAIR xs)) (hashes.rawHash r (widths ps))
+  -- what no book that READ accepts has
   lower y noExpr sc = pure 0
 
   -- document 01, Stored order: a row's elements all precede what joins them
