@@ -60,9 +60,9 @@ pub data Frame : Type 0 where
 abbrev pub frame : ℕ → ℕ → Frame
 frame c n = choose (at 0 skip ∷ at 1 (second n) ∷ at 2 (beside n) ∷ at 3 (lefted n) ∷ at 4 (righted n) ∷ []) c (paired n)
 
--- the cells that wait with the one that a frame of this code holds: a frame below code 5 holds none but for code 2
+-- the cells that wait, with the one that a frame of this code holds, if it holds one
 abbrev pub holding : ℕ → ℕ → List ℕ → List ℕ
-holding c h hs = choose (at 0 hs ∷ at 1 hs ∷ at 3 hs ∷ at 4 hs ∷ []) c (h ∷ hs)
+holding c h hs = choose (at 0 hs ∷ at 1 hs ∷ at 2 (h ∷ hs) ∷ at 3 hs ∷ at 4 hs ∷ []) c (h ∷ hs)
 
 -- what a frame makes of an outcome, children running as `kids`
 unfoldable pub apply : Given → Runs → Frame → Out → Out
