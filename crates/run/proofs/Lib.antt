@@ -1,4 +1,8 @@
 pub mod Outs
+pub mod Shapes
+pub mod Keepings
+pub mod Words
+pub mod Deliveries
 pub mod Checks
 pub mod Seeds
 pub mod Turns

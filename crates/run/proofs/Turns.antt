@@ -208,11 +208,11 @@ module _ {c c′ : List ℕ} (s : State) {p q : Kept} (a e : ℕ) (fr : Fresh (s
 
   full-halts : q .full ≡ true → (hs : List ℕ) (kid : ℕ → World → Out) → handOn (s .node) a e kid (world (s .used) c hs) ≡ halt 0 (endOf 18) (s .node)
   unfolding bind leads
-  full-halts z hs kid = ap (λ (o : Out). bind o kid) (stored hs ∙ rw z)
+  full-halts z hs kid = let q : store (s .node) 4 a e (world (s .used) c hs) ≡ halt 0 (endOf 18) (s .node) = stored hs ∙ rw z in rw q
 
   kept-goes : q .full ≡ false → (hs : List ℕ) (kid : ℕ → World → Out) → handOn (s .node) a e kid (world (s .used) c hs) ≡ kid (q .cell) (world (q .used) c′ hs)
   unfolding leads
-  kept-goes z hs kid = ap (λ (o : Out). bind o kid) (stored hs ∙ rw z) ∙ bind-got (q .cell) _ kid
+  kept-goes z hs kid = let o : store (s .node) 4 a e (world (s .used) c hs) ≡ got 0 (q .cell) (world (q .used) c′ hs) = stored hs ∙ rw z in rw o (bind-got (q .cell) _ kid)
 
   pub entered-full : {f : Stack} (m : ℕ) {r : State} → s .depth < DEEP → q .full ≡ true → Answers s (λ w. halt 0 (endOf 18) (s .node)) r
       → Entered c f s (λ kids. handOn (s .node) a e (kids m)) c′ f r
