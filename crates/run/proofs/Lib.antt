@@ -7,3 +7,5 @@ pub mod Checks
 pub mod Seeds
 pub mod Turns
 pub mod Ways
+pub mod Backs
+pub mod Ends

@@ -93,9 +93,9 @@ module _ (g : Given) (n x : ℕ) (w : World) (kids : Runs) where
   unfolding byKind
   kind-jet j e q = rw (e, q)
 
-  pub kind-none : {K : Type 0} → Rest (1 ∷ 2 ∷ 3 ∷ 4 ∷ 5 ∷ 6 ∷ 7 ∷ 8 ∷ 9 ∷ 10 ∷ 11 ∷ 12 ∷ 13 ∷ 14 ∷ 15 ∷ []) (kindAt (g .nodes) n) K → byKind g kids n x w ≡ halt 0 (refuses Stuck) n
+  pub kind-none : (k : ℕ) → kindAt (g .nodes) n ≡ k → {K : Type 0} → Rest (1 ∷ 2 ∷ 3 ∷ 4 ∷ 5 ∷ 6 ∷ 7 ∷ 8 ∷ 9 ∷ 10 ∷ 11 ∷ 12 ∷ 13 ∷ 14 ∷ 15 ∷ []) k K → byKind g kids n x w ≡ halt 0 (refuses Stuck) n
   unfolding byKind
-  kind-none {K} r = ap (λ (f : Runs). f n x w) (rest (kinds g kids) (kindAt (g .nodes) n) (λ m y v. halt 0 (refuses Stuck) m) K r .1)
+  kind-none k e {K} r = rw e (ap (λ (f : Runs). f n x w) (rest (kinds g kids) k (λ m y v. halt 0 (refuses Stuck) m) K r .1))
 
   -- nodes whose child is entered
   pub kind-injl : (m : ℕ) → kindAt (g .nodes) n ≡ 3 → m ≡ leftAt (g .nodes) n → byKind g kids n x w ≡ apply g kids (frame 3 n) (kids m x w)
@@ -162,6 +162,21 @@ module _ (g : Given) (n x : ℕ) (w : World) (kids : Runs) where
       pub branch-hidden-right : kindAt (w .table) y ≡ 3 → k ≡ 10 → byKind g kids n x w ≡ halt 0 fails n
       unfolding byKind
       branch-hidden-right l z = rw (e, z, shape-pair (w .table) x p, ← q, shape-right (w .table) y l)
+
+-- the keys of the machine's match over kinds, and what its ranges are
+abbrev pub SINGLE : List ℕ
+SINGLE = 1 ∷ 2 ∷ 3 ∷ 4 ∷ 7 ∷ 8 ∷ 9 ∷ 12 ∷ 13 ∷ 14 ∷ 15 ∷ []
+
+pub range-part : (k : ℕ) {K : Type 0} → Rest SINGLE k K → 1 ≤ k → k < 7 → (5 ≤ k) × (k ≤ 6)
+range-part k r a b = (omega (arith, r .0 .0 .0 .0 .0 .0 .0 .1, r .0 .0 .0 .0 .0 .0 .0 .0 .1, r .0 .0 .0 .0 .0 .0 .0 .0 .0 .1, r .0 .0 .0 .0 .0 .0 .0 .0 .0 .0 .1), omega arith)
+
+pub range-case : (k : ℕ) {K : Type 0} → Rest SINGLE k K → 7 ≤ k → k < 12 → Branches k
+range-case k r a b = inr (omega (arith, r .0 .0 .0 .0 .1, r .0 .0 .0 .0 .0 .1, r .0 .0 .0 .0 .0 .0 .1), omega arith)
+
+pub range-none : (k : ℕ) {K : Type 0} → Rest SINGLE k K → (k < 1) ⊎ (12 ≤ k) → Rest (1 ∷ 2 ∷ 3 ∷ 4 ∷ 5 ∷ 6 ∷ 7 ∷ 8 ∷ 9 ∷ 10 ∷ 11 ∷ 12 ∷ 13 ∷ 14 ∷ 15 ∷ []) k (Unit {0})
+range-none k r o =
+    let out : (j : ℕ) → 1 ≤ j → j < 12 → k ≡ j → ⊥ = λ j a b e. ⊎-elim (λ (l : k < 1). absurd (omega arith)) (λ (l : 12 ≤ k). absurd (omega arith)) o in
+    (((((((((((((((tt, out 1 (omega arith) (omega arith)), out 2 (omega arith) (omega arith)), out 3 (omega arith) (omega arith)), out 4 (omega arith) (omega arith)), out 5 (omega arith) (omega arith)), out 6 (omega arith) (omega arith)), out 7 (omega arith) (omega arith)), out 8 (omega arith) (omega arith)), out 9 (omega arith) (omega arith)), out 10 (omega arith) (omega arith)), out 11 (omega arith) (omega arith)), r .0 .0 .0 .1), r .0 .0 .1), r .0 .1), r .1)
 
 -- THE FRAMES, on a value that comes back
 module _ (g : Given) (kids : Runs) (n v u : ℕ) (c hs : List ℕ) where
