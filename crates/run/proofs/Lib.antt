@@ -9,3 +9,9 @@ pub mod Turns
 pub mod Ways
 pub mod Backs
 pub mod Ends
+pub mod Reading
+pub mod Unfolding
+pub mod Heaps
+pub mod Seeding
+pub mod Agree
+pub mod Meaning
