@@ -13,19 +13,19 @@ use Rattle.simplicity.specs.Outcomes.{Outcome}
 use Rattle.book.specs.Format.{wordAt}
 use Rattle.book.specs.declared.fault.Fault.the-variants.{Witness}
 use Rattle.run.specs.declared.machine.State.{State}
-use Rattle.run.specs.declared.table.Kept.{Kept}
-use Rattle.run.specs.declared.jets.Jetted.{Jetted}
-use Rattle.run.specs.declared.jets.Jetted.the-variants as jetteds
-use Rattle.run.specs.Entries.{leftAt, rightAt}
-use Rattle.run.specs.Given.{Given, typed, cellOf, supplies}
-use Rattle.run.specs.Cells.{World, world, refuses, Out, got, halt, deliver}
-use Rattle.run.specs.Keeping.{leads, jetted, Delivers}
+use Rattle.cells.specs.declared.table.Kept.{Kept}
+use Rattle.cells.specs.declared.jets.Jetted.{Jetted}
+use Rattle.cells.specs.declared.jets.Jetted.the-variants as jetteds
+use Rattle.cells.specs.Entries.{leftAt, rightAt}
+use Rattle.nodes.specs.Given.{Given, typed, cellOf, supplies}
+use Rattle.cells.specs.Cells.{World, world, refuses, Out, got, halt, deliver}
+use Rattle.cells.specs.Keeping.{leads, jetted, Delivers}
 use Rattle.run.specs.Run.{witnessed}
 use Rattle.run.specs.Whole.{DEEP}
 use Rattle.run.specs.Machine.{Stack, frames, waiting, resume, endOf, goingOn, turns, Turned, Downed, Handed, Answers, Backs, Sound}
 use Rattle.run.proofs.Turns.{back-down, back-hand, handed-as}
 use Rattle.run.proofs.Ways.{frame-skip, frame-second, frame-beside, frame-lefted, frame-righted, frame-paired, weight-second, weight-beside}
-use Rattle.run.specs.Cells.{store}
+use Rattle.cells.specs.Cells.{store}
 
 below : (d : ℕ) → (d ≡ 0 → ⊥) → d ≡ d - 1 + 1
 below d h = omega arith

@@ -20,19 +20,19 @@ use Rattle.book.specs.declared.fault.Refusal.{Refusal}
 use Rattle.book.proofs.Established.{answer-valid}
 use Rattle.named.proofs.Images.{zeros}
 use Rattle.run.specs.declared.machine.State.{State}
-use Rattle.run.specs.declared.table.Kept.{Kept}
+use Rattle.cells.specs.declared.table.Kept.{Kept}
 use Rattle.run.specs.declared.RunAnswer.{RunAnswer}
 use Rattle.run.specs.declared.RunAnswer.the-variants as answers
-use Rattle.run.specs.declared.nodes.Verdict.{Verdict}
-use Rattle.run.specs.declared.nodes.Verdict.the-variants as verdicts
-use Rattle.run.specs.Given.{Text, text, Given, given}
-use Rattle.run.specs.Nodes.{Judged, wellFormed, badAt, judge}
-use Rattle.run.specs.Cells.{World, world, End, fails, refuses, Out, got, halt, add, bind}
-use Rattle.run.specs.Keeping.{leads}
+use Rattle.nodes.specs.declared.check.Verdict.{Verdict}
+use Rattle.nodes.specs.declared.check.Verdict.the-variants as verdicts
+use Rattle.nodes.specs.Given.{Text, text, Given, given}
+use Rattle.nodes.specs.Nodes.{Judged, wellFormed, badAt, judge, verdictOf}
+use Rattle.cells.specs.Cells.{World, world, End, fails, refuses, Out, got, halt, add, bind}
+use Rattle.cells.specs.Keeping.{leads}
 use Rattle.run.specs.Run.{run}
 use Rattle.run.specs.Whole.{DEEP, seeds, ended, Result, valued, failing, refused, resultOf, afterCheck, afterRead, resulting, answerOf, cellsOf, runOf, tableOf}
-use Rattle.run.specs.Machine.{Stack, stack, Deep, frames, waiting, resume, verdictOf, Started, endOf, overAt, goingOn, future, Stopped, Answered}
-use Rattle.run.proofs.Outs.{bind-got}
+use Rattle.run.specs.Machine.{Stack, frames, waiting, resume, Started, endOf, overAt, goingOn, future, Stopped, Answered}
+use Rattle.cells.proofs.Outs.{bind-got}
 
 -- the refusals that end a run
 pub end-other : (m : ℕ) {K : Type 0} → Rest (16 ∷ 17 ∷ 18 ∷ 19 ∷ []) m K → (m ≡ 3 → ⊥) → refuses faults.Jet ≡ endOf m

@@ -18,13 +18,13 @@ use Rattle.book.specs.Stands.{Stands}
 use Rattle.book.proofs.Standing.{stands-mark}
 use Rattle.book.proofs.Course.{zeros}
 use Rattle.book.proofs.Judging.{up-to}
-use Rattle.run.specs.Cells.{unitCell, leftCell, rightCell, pairCell, World, Out, got, halt, add, bind, store}
-use Rattle.run.specs.Given.{Text, holds, valuesBelow, cellOf}
-use Rattle.run.specs.Keeping.{leads, Fresh, Keeps}
+use Rattle.cells.specs.Cells.{unitCell, leftCell, rightCell, pairCell, World, Out, got, halt, add, bind, store}
+use Rattle.nodes.specs.Given.{Text, holds, valuesBelow, cellOf}
+use Rattle.cells.specs.Keeping.{leads, Fresh, Keeps}
 use Rattle.run.specs.Whole.{partOf, seed, seedOne, seeds}
 use Rattle.run.specs.Machine.{Placed, Seeded, Started}
-use Rattle.run.specs.declared.table.Kept.{Kept}
-use Rattle.run.proofs.Checks.{holds-inside}
+use Rattle.cells.specs.declared.table.Kept.{Kept}
+use Rattle.nodes.proofs.Checks.{holds-inside}
 
 -- the first r records are numbered: the row has their cells and zeros beyond, and the next value's cell is this
 pub record Numbered (b : Text) (row : List ℕ) (next r : ℕ) : Type 0 where

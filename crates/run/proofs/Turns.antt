@@ -11,14 +11,15 @@ use lib.ListN.{length, getD}
 use lib.Dec.{eqb}
 use borrow.Author.Tests.{ne-eqb}
 use Rattle.run.specs.declared.machine.State.{State}
-use Rattle.run.specs.declared.table.Kept.{Kept}
-use Rattle.run.specs.Given.{Given}
-use Rattle.run.specs.Cells.{World, world, End, Out, got, halt, add, bind, store}
-use Rattle.run.specs.Keeping.{leads, Fresh, Keeps}
+use Rattle.cells.specs.declared.table.Kept.{Kept}
+use Rattle.nodes.specs.Given.{Given}
+use Rattle.cells.specs.Cells.{World, world, End, Out, got, halt, add, bind, store}
+use Rattle.cells.specs.Keeping.{leads, Fresh, Keeps}
 use Rattle.run.specs.Run.{Runs, handOn, byKind, run}
 use Rattle.run.specs.Whole.{DEEP}
 use Rattle.run.specs.Machine.{Frame, skip, second, beside, lefted, righted, paired, frame, holding, apply, resume, Stack, stack, Deep, frames, waiting, endOf, overAt, goingOn, future, weight, weights, turns, Turned, Downed, Handed, Answers, Backs, Entered, Stopped}
-use Rattle.run.proofs.Outs.{add-none, add-add, bind-got, resume-add, resume-halt, pushed, frames-put, waiting-put}
+use Rattle.cells.proofs.Outs.{add-none, add-add, bind-got}
+use Rattle.run.proofs.Frames.{resume-add, resume-halt, pushed, frames-put, waiting-put}
 
 fuel : (d : ℕ) → d < DEEP → DEEP - d ≡ suc (DEEP - (d + 1))
 fuel d l = omega arith

@@ -3,59 +3,19 @@
 use mathlib.Core.Path.{_≡_, refl, sym, ap, _∙_}
 use mathlib.Core.Logic.{_⊎_, inl, inr, ⊎-elim}
 use mathlib.Core.List.{List, [], _∷_}
-use mathlib.Core.Bool.{Bool, true, false}
 use Prim.Native.Nat.{ℕ, _+_, _≤_, _<_}
 use native.Mathlib.Nat.{eq-or-lt-of-le}
 use native.Mathlib.Omega.{arith}
-use lib.Dec.{eqb}
-use borrow.Author.Tests.{ne-eqb}
-use Rattle.laws.specs.Table.{pick, true-false, Case, at, choose, Rest, rest}
-use Rattle.simplicity.specs.Values.{Shape, isNothing, isUnit, isLeft, isRight, isPair, ifSum, ifPair}
+use Rattle.laws.specs.Table.{at, Rest, rest}
 use Rattle.simplicity.specs.Jets.{jetOn}
 use Rattle.book.specs.declared.fault.Fault.the-variants.{Stuck}
-use Rattle.run.specs.Entries.{kindAt, leftAt, rightAt}
-use Rattle.run.specs.Given.{Given, cellOf}
-use Rattle.run.specs.Cells.{shapeAt, World, world, hold, fails, refuses, Out, got, halt, bind, store, deliver}
+use Rattle.cells.specs.Entries.{kindAt, leftAt, rightAt}
+use Rattle.nodes.specs.Given.{Given, cellOf}
+use Rattle.cells.specs.Cells.{shapeAt, World, world, hold, fails, refuses, Out, got, halt, bind, store, deliver}
 use Rattle.run.specs.Run.{Runs, handOn, witnessed, kinds, byKind}
 use Rattle.run.specs.Machine.{Frame, skip, second, beside, lefted, righted, paired, frame, holding, apply, weight, Branches}
-use Rattle.run.proofs.Outs.{add-none}
-
--- cells by their kinds
-module _ (t : List ℕ) (x : ℕ) where
-  pub shape-left : kindAt t x ≡ 2 → shapeAt t x ≡ isLeft (leftAt t x)
-  unfolding shapeAt
-  shape-left e = rw e
-
-  pub shape-right : kindAt t x ≡ 3 → shapeAt t x ≡ isRight (leftAt t x)
-  unfolding shapeAt
-  shape-right e = rw e
-
-  pub shape-pair : kindAt t x ≡ 4 → shapeAt t x ≡ isPair (leftAt t x) (rightAt t x)
-  unfolding shapeAt
-  shape-pair e = rw e
-
--- what is made of a cell of another kind
-pub pair-other : {R : Type 0} (t : List ℕ) (x : ℕ) (f : ℕ → ℕ → R) (r : R) → (kindAt t x ≡ 4 → ⊥) → ifPair (shapeAt t x) f r ≡ r
-unfolding shapeAt
-pair-other {R} t x f r h = go (eqb (kindAt t x) 1) (eqb (kindAt t x) 2) (eqb (kindAt t x) 3) (eqb (kindAt t x) 4) (ne-eqb (kindAt t x) 4 h)
-  where
-    go : (a b c d : Bool) → d ≡ false → ifPair (pick a isUnit (pick b (isLeft (leftAt t x)) (pick c (isRight (leftAt t x)) (pick d (isPair (leftAt t x) (rightAt t x)) isNothing)))) f r ≡ r
-    go true b c d e = refl
-    go false true c d e = refl
-    go false false true d e = refl
-    go false false false true e = absurd (true-false e)
-    go false false false false e = refl
-
-pub sum-other : {R : Type 0} (t : List ℕ) (x : ℕ) (f k : ℕ → R) (r : R) → (kindAt t x ≡ 2 → ⊥) → (kindAt t x ≡ 3 → ⊥) → ifSum (shapeAt t x) f k r ≡ r
-unfolding shapeAt
-sum-other {R} t x f k r h i = go (eqb (kindAt t x) 1) (eqb (kindAt t x) 2) (eqb (kindAt t x) 3) (eqb (kindAt t x) 4) (ne-eqb (kindAt t x) 2 h) (ne-eqb (kindAt t x) 3 i)
-  where
-    go : (a b c d : Bool) → b ≡ false → c ≡ false → ifSum (pick a isUnit (pick b (isLeft (leftAt t x)) (pick c (isRight (leftAt t x)) (pick d (isPair (leftAt t x) (rightAt t x)) isNothing)))) f k r ≡ r
-    go true b c d e z = refl
-    go false true c d e z = absurd (true-false e)
-    go false false true d e z = absurd (true-false z)
-    go false false false true e z = refl
-    go false false false false e z = refl
+use Rattle.cells.proofs.Outs.{add-none}
+use Rattle.cells.proofs.Shapes.{left-shape, right-shape, pair-shape, no-sum, no-pair}
 
 five-or-six : (k : ℕ) → 5 ≤ k → k ≤ 6 → (k ≡ 5) ⊎ (k ≡ 6)
 five-or-six k a b = ⊎-elim (λ (h : 5 ≡ k). inl (sym h)) (λ (h : 5 < k). inr (omega arith)) (eq-or-lt-of-le a)
@@ -117,51 +77,51 @@ module _ (g : Given) (n x : ℕ) (w : World) (kids : Runs) where
   pub kind-take : (m y : ℕ) → kindAt (g .nodes) n ≡ 5 → kindAt (w .table) x ≡ 4 → m ≡ leftAt (g .nodes) n → y ≡ leftAt (w .table) x
       → byKind g kids n x w ≡ apply g kids (frame 0 n) (kids m y w)
   unfolding byKind apply
-  kind-take m y e p q r = rw (e, shape-pair (w .table) x p, q, r)
+  kind-take m y e p q r = rw (e, pair-shape (w .table) x p, q, r)
 
   pub kind-drop : (m y : ℕ) → kindAt (g .nodes) n ≡ 6 → kindAt (w .table) x ≡ 4 → m ≡ leftAt (g .nodes) n → y ≡ rightAt (w .table) x
       → byKind g kids n x w ≡ apply g kids (frame 0 n) (kids m y w)
   unfolding byKind apply
-  kind-drop m y e p q r = rw (e, shape-pair (w .table) x p, q, r)
+  kind-drop m y e p q r = rw (e, pair-shape (w .table) x p, q, r)
 
   -- a part of what is no pair
   pub kind-part : (k : ℕ) → kindAt (g .nodes) n ≡ k → 5 ≤ k → k ≤ 6 → (kindAt (w .table) x ≡ 4 → ⊥) → byKind g kids n x w ≡ halt 0 (refuses Stuck) n
   unfolding byKind
   kind-part k e a b h =
-      ⊎-elim (λ (z : k ≡ 5). rw (e, z) (pair-other (w .table) x _ _ h)) (λ (z : k ≡ 6). rw (e, z) (pair-other (w .table) x _ _ h)) (five-or-six k a b)
+      ⊎-elim (λ (z : k ≡ 5). rw (e, z) (no-pair (w .table) x _ _ h)) (λ (z : k ≡ 6). rw (e, z) (no-pair (w .table) x _ _ h)) (five-or-six k a b)
 
   -- cases and asserts, by the side of the sum
   module _ (k : ℕ) (e : kindAt (g .nodes) n ≡ k) (s : Branches k) where
     pub branch-other : (kindAt (w .table) x ≡ 4 → ⊥) → byKind g kids n x w ≡ halt 0 (refuses Stuck) n
     unfolding byKind
-    branch-other h = three k s (λ z. rw (e, z) (pair-other (w .table) x _ _ h)) (λ z. rw (e, z) (pair-other (w .table) x _ _ h)) (λ z. rw (e, z) (pair-other (w .table) x _ _ h))
+    branch-other h = three k s (λ z. rw (e, z) (no-pair (w .table) x _ _ h)) (λ z. rw (e, z) (no-pair (w .table) x _ _ h)) (λ z. rw (e, z) (no-pair (w .table) x _ _ h))
 
     module _ (y : ℕ) (p : kindAt (w .table) x ≡ 4) (q : y ≡ leftAt (w .table) x) where
       pub branch-none : (kindAt (w .table) y ≡ 2 → ⊥) → (kindAt (w .table) y ≡ 3 → ⊥) → byKind g kids n x w ≡ halt 0 (refuses Stuck) n
       unfolding byKind
       branch-none h i =
-          three k s (λ z. rw (e, z, shape-pair (w .table) x p, ← q) (sum-other (w .table) y _ _ _ h i))
-          (λ z. rw (e, z, shape-pair (w .table) x p, ← q) (sum-other (w .table) y _ _ _ h i))
-          (λ z. rw (e, z, shape-pair (w .table) x p, ← q) (sum-other (w .table) y _ _ _ h i))
+          three k s (λ z. rw (e, z, pair-shape (w .table) x p, ← q) (no-sum (w .table) y _ _ _ h i))
+          (λ z. rw (e, z, pair-shape (w .table) x p, ← q) (no-sum (w .table) y _ _ _ h i))
+          (λ z. rw (e, z, pair-shape (w .table) x p, ← q) (no-sum (w .table) y _ _ _ h i))
 
       pub branch-left : (m a r : ℕ) → kindAt (w .table) y ≡ 2 → (k ≡ 11 → ⊥) → m ≡ leftAt (g .nodes) n → a ≡ leftAt (w .table) y → r ≡ rightAt (w .table) x → byKind g kids n x w ≡ handOn n a r (kids m) w
       unfolding byKind
       branch-left m a r l h i j o =
-          three k s (λ z. rw (e, z, shape-pair (w .table) x p, ← q, shape-left (w .table) y l, i, j, o)) (λ z. rw (e, z, shape-pair (w .table) x p, ← q, shape-left (w .table) y l, i, j, o)) (λ z. absurd (h z))
+          three k s (λ z. rw (e, z, pair-shape (w .table) x p, ← q, left-shape (w .table) y l, i, j, o)) (λ z. rw (e, z, pair-shape (w .table) x p, ← q, left-shape (w .table) y l, i, j, o)) (λ z. absurd (h z))
 
       pub branch-right : (m a r : ℕ) → kindAt (w .table) y ≡ 3 → (k ≡ 10 → ⊥) → m ≡ rightAt (g .nodes) n → a ≡ leftAt (w .table) y → r ≡ rightAt (w .table) x → byKind g kids n x w ≡ handOn n a r (kids m) w
       unfolding byKind
       branch-right m a r l h i j o =
-          three k s (λ z. rw (e, z, shape-pair (w .table) x p, ← q, shape-right (w .table) y l, i, j, o)) (λ z. absurd (h z)) (λ z. rw (e, z, shape-pair (w .table) x p, ← q, shape-right (w .table) y l, i, j, o))
+          three k s (λ z. rw (e, z, pair-shape (w .table) x p, ← q, right-shape (w .table) y l, i, j, o)) (λ z. absurd (h z)) (λ z. rw (e, z, pair-shape (w .table) x p, ← q, right-shape (w .table) y l, i, j, o))
 
       -- the hidden side of an assert
       pub branch-hidden-left : kindAt (w .table) y ≡ 2 → k ≡ 11 → byKind g kids n x w ≡ halt 0 fails n
       unfolding byKind
-      branch-hidden-left l z = rw (e, z, shape-pair (w .table) x p, ← q, shape-left (w .table) y l)
+      branch-hidden-left l z = rw (e, z, pair-shape (w .table) x p, ← q, left-shape (w .table) y l)
 
       pub branch-hidden-right : kindAt (w .table) y ≡ 3 → k ≡ 10 → byKind g kids n x w ≡ halt 0 fails n
       unfolding byKind
-      branch-hidden-right l z = rw (e, z, shape-pair (w .table) x p, ← q, shape-right (w .table) y l)
+      branch-hidden-right l z = rw (e, z, pair-shape (w .table) x p, ← q, right-shape (w .table) y l)
 
 -- the keys of the machine's match over kinds, and what its ranges are
 abbrev pub SINGLE : List ℕ

@@ -9,22 +9,14 @@ use Rattle.laws.specs.Table.{pick, Case, at, choose}
 use lib.Dec.{eqb}
 use Rattle.book.specs.Valid.{Valid}
 use Rattle.book.specs.declared.fault.Fault.the-variants as faults
-use Rattle.run.specs.Given.{Text, Given, cellOf}
-use Rattle.run.specs.Nodes.{Judged, wellFormed, badAt}
-use Rattle.run.specs.Cells.{leftCell, rightCell, pairCell, World, world, hold, newest, letGo, keeping, End, fails, refuses, Out, got, halt, add, bind, store}
+use Rattle.nodes.specs.Given.{Text, Given, cellOf}
+use Rattle.cells.specs.Cells.{leftCell, rightCell, pairCell, World, world, hold, newest, letGo, keeping, End, fails, refuses, Out, got, halt, add, bind, store}
 use Rattle.run.specs.Run.{Runs, other, run}
 use Rattle.run.specs.Whole.{DEEP, seeds, Result, answerOf, cellsOf}
-use Rattle.run.specs.Keeping.{leads}
-use Rattle.run.specs.declared.table.Kept.{Kept}
+use Rattle.cells.specs.Keeping.{leads}
+use Rattle.cells.specs.declared.table.Kept.{Kept}
 use Rattle.run.specs.declared.machine.State.{State}
-use Rattle.run.specs.declared.nodes.Verdict.{Verdict}
-use Rattle.run.specs.declared.nodes.Verdict.the-variants as verdicts
 use Rattle.run.specs.declared.RunAnswer.{RunAnswer}
-
--- the check's answer, as the definition has it
-abbrev pub verdictOf : Verdict → Judged
-verdictOf verdicts.Well = wellFormed
-verdictOf (verdicts.BadAt p) = badAt p
 
 -- a row has the cell of each value record
 pub record Placed (b : Text) (row : List ℕ) : Type 0 where

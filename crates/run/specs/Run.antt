@@ -7,9 +7,9 @@ use Rattle.simplicity.specs.Values.{ifSum, ifPair}
 use Rattle.simplicity.specs.Jets.{jetOn}
 use Rattle.book.specs.declared.fault.Fault.the-variants.{Steep, Witness, Stuck}
 use Rattle.named.specs.Combinators.{IDEN, UNIT, INJL, INJR, TAKE, DROP, COMP, CASE, PAIR, ASSERTL, ASSERTR, FAIL, WITNESS, SCRIBE, JET}
-use Rattle.run.specs.Entries.{kindAt, leftAt, rightAt}
-use Rattle.run.specs.Given.{Given, cellOf, entryOf, supplies}
-use Rattle.run.specs.Cells.{leftCell, rightCell, pairCell, shapeAt, World, keeping, fails, refuses, Out, got, halt, add, bind, store, deliver}
+use Rattle.cells.specs.Entries.{kindAt, leftAt, rightAt}
+use Rattle.nodes.specs.Given.{Given, cellOf, entryOf, supplies}
+use Rattle.cells.specs.Cells.{leftCell, rightCell, pairCell, shapeAt, World, keeping, fails, refuses, Out, got, halt, add, bind, store, deliver}
 
 -- what a node makes of a cell
 abbrev pub Runs : Type 0

@@ -4,8 +4,8 @@ ghost use Prim.Native.Nat.{ℕ, _≤_, _<_};
 ghost use lib.ListN.{length, replicate};
 ghost use Rattle.book.specs.Valid.{Valid};
 ghost use mathlib.Core.List.{List, []};
-ghost use Rattle.run.specs.Cells.{world, refuses};
-ghost use Rattle.run.specs.Given.{text, given};
+ghost use Rattle.cells.specs.Cells.{world, refuses};
+ghost use Rattle.nodes.specs.Given.{text, given};
 ghost use Rattle.run.specs.Run.{run};
 ghost use Rattle.run.specs.Whole.{DEEP, ended, resultOf, afterRead, runOf, tableOf};
 ghost use Rattle.run.specs.Machine.{Answered, Sound, Stopped, endOf, overAt};
@@ -13,21 +13,16 @@ use crate::initial::number_values;
 use crate::initial::seed_cells;
 use crate::machine::State;
 use crate::machine::drive;
-use crate::nodes::Verdict;
-use crate::nodes::judge_table;
 use book::fault::Fault;
 use book::fault::ReadAnswer;
 use book::fault::Refusal;
 use book::read::index_book;
 use named::table::clear;
+use nodes::check::Verdict;
+use nodes::check::judge_table;
 
-mod given;
 mod initial;
-mod jets;
 mod machine;
-mod nodes;
-mod table;
-
 // RUN's answer: a value's cell and how many cells are used, a failure, or a refusal.
 pub enum RunAnswer {
     Value { cell: u16, count: u16 },

@@ -1,7 +1,7 @@
 -- `run_read` meets its contract.
 -- Assumes nothing.
 use Rattle.run.proofs.Ends.{well-counts, read-well, read-bad}
-use Rattle.run.specs.Given.{text, given}
+use Rattle.nodes.specs.Given.{text, given}
 use borrow.Author.Needs.{needs}
 use Rattle.run.proofs.run_read.Statement.{statement}
 use Rattle.run.proofs.run_read.Tie as tie

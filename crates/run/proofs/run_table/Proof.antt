@@ -2,7 +2,7 @@
 -- Assumes nothing.
 use mathlib.Core.Path.{_∙_}
 use Rattle.run.proofs.Ends.{table-full, table-ran}
-use Rattle.run.specs.Given.{text, given}
+use Rattle.nodes.specs.Given.{text, given}
 use borrow.Author.Needs.{needs}
 use Rattle.run.proofs.run_table.Statement.{statement}
 use Rattle.run.proofs.run_table.Tie as tie

@@ -5,7 +5,7 @@ use native.Mathlib.Omega.{arith}
 use Prim.Native.Nat.{_-_}
 use mathlib.Core.Logic.{⊎-elim}
 use mathlib.Core.Path.{sym, _∙_}
-use Rattle.run.specs.Given.{text}
+use Rattle.nodes.specs.Given.{text}
 use Rattle.run.proofs.Seeds.{Numbered, zeros-length, few-values, number-none, number-value, number-other, number-all}
 use Rattle.run.proofs.initial.number_values.Statement.{statement}
 use Rattle.run.proofs.initial.number_values.Tie as tie

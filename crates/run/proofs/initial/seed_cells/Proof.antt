@@ -6,7 +6,7 @@ use Prim.Native.Nat.{ℕ, _-_, _≤_}
 use mathlib.Core.List.{List}
 use mathlib.Core.Path.{_≡_, refl}
 use lib.ListN.{length}
-use Rattle.run.specs.Given.{text}
+use Rattle.nodes.specs.Given.{text}
 use Rattle.run.specs.Machine.{Started}
 use Rattle.run.proofs.Seeds.{start-unit, start-one, start-all}
 use Rattle.run.proofs.initial.seed_cells.Statement.{statement}

@@ -2,7 +2,7 @@
 -- Assumes nothing.
 use borrow.Author.Needs.{needs}
 use mathlib.Core.Path.{sym, _∙_}
-use Rattle.run.specs.Given.{text}
+use Rattle.nodes.specs.Given.{text}
 use Rattle.run.proofs.Seeds.{one-value, one-other}
 use Rattle.run.proofs.initial.seed_one.Statement.{statement}
 use Rattle.run.proofs.initial.seed_one.Tie as tie

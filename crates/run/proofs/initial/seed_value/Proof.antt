@@ -4,8 +4,8 @@ use borrow.Author.Needs.{needs}
 use mathlib.Core.Path.{sym, _∙_}
 use Rattle.book.specs.Format.{VALUE, VL, VR, VP}
 use Rattle.book.proofs.Standing.{stands-begins, head-lies}
-use Rattle.run.specs.Given.{text}
-use Rattle.run.proofs.Checks.{holds-stands}
+use Rattle.nodes.specs.Given.{text}
+use Rattle.nodes.proofs.Checks.{holds-stands}
 use Rattle.run.proofs.Seeds.{pair-mark, seed-unit, seed-left, seed-right, seed-pair, seed-kept}
 use Rattle.run.proofs.initial.seed_value.Statement.{statement}
 use Rattle.run.proofs.initial.seed_value.Tie as tie

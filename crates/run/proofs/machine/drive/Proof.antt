@@ -1,7 +1,7 @@
 -- `drive` meets its contract: turns until the run has ended.
 -- Assumes nothing.
 use Rattle.run.proofs.Turns.{Going, left, left-less, going-none, going-more, going-stopped}
-use Rattle.run.specs.Given.{text, given}
+use Rattle.nodes.specs.Given.{text, given}
 use Rattle.run.specs.Machine.{stack}
 use native.Mathlib.Omega.{arith}
 use Rattle.run.proofs.machine.drive.Statement.{statement}

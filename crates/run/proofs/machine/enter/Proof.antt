@@ -1,7 +1,7 @@
 -- `enter` meets its contract.
 -- Assumes nothing.
 use mathlib.Core.Path.{sym, ap, _∙_}
-use Rattle.run.specs.Given.{cellOf}
+use Rattle.nodes.specs.Given.{cellOf}
 use mathlib.Core.Logic.{inl, inr, ⊎-elim}
 use Rattle.run.proofs.Turns.{turned-answers, turned-handed, turned-down, turned-steep}
 use Rattle.run.proofs.Ways.{range-part, range-case, range-none, kind-iden, kind-unit, kind-injl, kind-injr, kind-comp, kind-pair, kind-fail, kind-witness, kind-scribe, kind-jet, kind-none}

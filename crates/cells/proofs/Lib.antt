@@ -1,0 +1,5 @@
+pub mod Outs
+pub mod Shapes
+pub mod Keepings
+pub mod Words
+pub mod Deliveries
