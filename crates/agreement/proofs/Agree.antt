@@ -29,7 +29,7 @@ use Rattle.named.specs.Combinators.{IDEN, UNIT, INJL, INJR, TAKE, DROP, COMP, C
 use Rattle.cells.specs.Entries.{kindAt}
 use Rattle.nodes.specs.Given.{Text, Given, holds, typed, cellOf, entryOf, supplies}
 use Rattle.cells.specs.Cells.{leftCell, rightCell, pairCell, shapeAt, World, hold, newest, letGo, End, fails, refuses, Out, got, halt, add, bind, store, storeValue, deliver}
-use Rattle.run.specs.Run.{one, other, stuckAt, handOn, witnessed, kinds, byKind, run}
+use Rattle.machine.specs.Run.{one, other, stuckAt, handOn, witnessed, kinds, byKind, run}
 use Rattle.agreement.specs.Agreement.{witnessesOf, Says, says-steep, says-witness, says-cells, says-stuck, says-jet}
 use Rattle.agreement.proofs.Reading.{Back, b-unit, b-left, b-right, b-pair, on-jet}
 use Rattle.agreement.proofs.Unfolding.{Unfolds, u-iden, u-unit, u-injl, u-injr, u-take, u-drop, u-comp, u-case, u-pair, u-assertl, u-assertr, u-fail, u-witness, u-scribe, u-jet}

@@ -21,8 +21,8 @@ use Rattle.book.proofs.Established.{answer-valid}
 use Rattle.nodes.specs.Given.{Text, text, Given, given}
 use Rattle.nodes.specs.Nodes.{Judged, wellFormed, badAt, judge}
 use Rattle.cells.specs.Cells.{world, fails, refuses, Out, got, halt, bind}
-use Rattle.run.specs.Run.{run}
-use Rattle.run.specs.Whole.{DEEP, seeds, ended, Result, refused, resultOf, afterCheck, afterRead, resulting, answerOf, cellsOf, runOf, tableOf}
+use Rattle.machine.specs.Run.{DEEP, run}
+use Rattle.run.specs.Whole.{seeds, ended, Result, refused, resultOf, afterCheck, afterRead, resulting, answerOf, cellsOf, runOf, tableOf}
 use Rattle.agreement.specs.Unfold.{valueAt}
 use Rattle.agreement.specs.Agreement.{meaningOf, Says, says-steep, says-witness, says-cells, says-stuck, says-jet, Tells, tells-value, tells-failed, tells-refused}
 use Rattle.run.specs.declared.RunAnswer.{RunAnswer}

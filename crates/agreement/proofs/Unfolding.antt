@@ -17,7 +17,7 @@ use Rattle.named.specs.Combinators.{IDEN, UNIT, INJL, INJR, TAKE, DROP, COMP, C
 use Rattle.cells.specs.Entries.{kindAt}
 use Rattle.nodes.specs.Given.{Text, Given, holds}
 use Rattle.nodes.specs.Nodes.{rolesOf, fits, roleAt, formed, firstBad, Judged, wellFormed, badAt, judge}
-use Rattle.run.specs.Run.{one, other}
+use Rattle.machine.specs.Run.{one, other}
 use Rattle.agreement.specs.Unfold.{makers, termTo, termAt}
 
 -- node n is a term: its kind, and what its operands are

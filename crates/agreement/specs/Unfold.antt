@@ -11,7 +11,7 @@ use Rattle.named.specs.Combinators.{IDEN, UNIT, INJL, INJR, TAKE, DROP, COMP, C
 use Rattle.cells.specs.Entries.{kindAt, leftAt, rightAt}
 use Rattle.nodes.specs.Given.{Given}
 use Rattle.cells.specs.Cells.{shapeAt}
-use Rattle.run.specs.Run.{one, other}
+use Rattle.machine.specs.Run.{one, other}
 
 -- document 01, Stored order: what each kind of node is as a term, its children being the terms `kids`; the operands' meanings
 abbrev pub makers : Given → (ℕ → Term) → List (Case (ℕ → Term))

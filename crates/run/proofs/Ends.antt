@@ -19,7 +19,7 @@ use Rattle.book.specs.declared.fault.ReadAnswer.the-variants as reads
 use Rattle.book.specs.declared.fault.Refusal.{Refusal}
 use Rattle.book.proofs.Established.{answer-valid}
 use Rattle.named.proofs.Images.{zeros}
-use Rattle.run.specs.declared.machine.State.{State}
+use Rattle.machine.specs.declared.State.{State}
 use Rattle.cells.specs.declared.table.Kept.{Kept}
 use Rattle.run.specs.declared.RunAnswer.{RunAnswer}
 use Rattle.run.specs.declared.RunAnswer.the-variants as answers
@@ -29,9 +29,10 @@ use Rattle.nodes.specs.Given.{Text, text, Given, given}
 use Rattle.nodes.specs.Nodes.{Judged, wellFormed, badAt, judge, verdictOf}
 use Rattle.cells.specs.Cells.{World, world, End, fails, refuses, Out, got, halt, add, bind}
 use Rattle.cells.specs.Keeping.{leads}
-use Rattle.run.specs.Run.{run}
-use Rattle.run.specs.Whole.{DEEP, seeds, ended, Result, valued, failing, refused, resultOf, afterCheck, afterRead, resulting, answerOf, cellsOf, runOf, tableOf}
-use Rattle.run.specs.Machine.{Stack, frames, waiting, resume, Started, endOf, overAt, goingOn, future, Stopped, Answered}
+use Rattle.machine.specs.Run.{DEEP, run}
+use Rattle.run.specs.Whole.{seeds, ended, Result, valued, failing, refused, resultOf, afterCheck, afterRead, resulting, answerOf, cellsOf, runOf, tableOf}
+use Rattle.machine.specs.Machine.{Stack, frames, waiting, resume, endOf, overAt, goingOn, future, Stopped}
+use Rattle.run.specs.Calls.{Started, Answered}
 use Rattle.cells.proofs.Outs.{bind-got}
 
 -- the refusals that end a run

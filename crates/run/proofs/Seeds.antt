@@ -22,7 +22,8 @@ use Rattle.cells.specs.Cells.{unitCell, leftCell, rightCell, pairCell, World, O
 use Rattle.nodes.specs.Given.{Text, holds, valuesBelow, cellOf}
 use Rattle.cells.specs.Keeping.{leads, Fresh, Keeps}
 use Rattle.run.specs.Whole.{partOf, seed, seedOne, seeds}
-use Rattle.run.specs.Machine.{Placed, Seeded, Started}
+use Rattle.machine.specs.Machine.{Placed}
+use Rattle.run.specs.Calls.{Seeded, Started}
 use Rattle.cells.specs.declared.table.Kept.{Kept}
 use Rattle.nodes.proofs.Checks.{holds-inside}
 

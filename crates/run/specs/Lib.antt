@@ -1,3 +1,2 @@
-pub mod Run
 pub mod Whole
-pub mod Machine
+pub mod Calls

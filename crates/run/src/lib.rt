@@ -6,23 +6,23 @@ ghost use Rattle.book.specs.Valid.{Valid};
 ghost use mathlib.Core.List.{List, []};
 ghost use Rattle.cells.specs.Cells.{world, refuses};
 ghost use Rattle.nodes.specs.Given.{text, given};
-ghost use Rattle.run.specs.Run.{run};
-ghost use Rattle.run.specs.Whole.{DEEP, ended, resultOf, afterRead, runOf, tableOf};
-ghost use Rattle.run.specs.Machine.{Answered, Sound, Stopped, endOf, overAt};
+ghost use Rattle.machine.specs.Run.{DEEP, run};
+ghost use Rattle.run.specs.Whole.{ended, resultOf, afterRead, runOf, tableOf};
+ghost use Rattle.run.specs.Calls.{Answered};
+ghost use Rattle.machine.specs.Machine.{Sound, Stopped, endOf, overAt};
 use crate::initial::number_values;
 use crate::initial::seed_cells;
-use crate::machine::State;
-use crate::machine::drive;
 use book::fault::Fault;
 use book::fault::ReadAnswer;
 use book::fault::Refusal;
 use book::read::index_book;
+use machine::State;
+use machine::drive;
 use named::table::clear;
 use nodes::check::Verdict;
 use nodes::check::judge_table;
 
 mod initial;
-mod machine;
 // RUN's answer: a value's cell and how many cells are used, a failure, or a refusal.
 pub enum RunAnswer {
     Value { cell: u16, count: u16 },

@@ -2,7 +2,7 @@
 -- Assumes nothing.
 use mathlib.Core.Path.{sym, ap}
 use Rattle.run.proofs.Ends.{end-other}
-use Rattle.run.specs.Machine.{endOf}
+use Rattle.machine.specs.Machine.{endOf}
 use Rattle.run.proofs.fault_of.Statement.{statement}
 use Rattle.run.proofs.fault_of.Tie as tie
 

@@ -7,7 +7,7 @@ use mathlib.Core.List.{List}
 use mathlib.Core.Path.{_≡_, refl}
 use lib.ListN.{length}
 use Rattle.nodes.specs.Given.{text}
-use Rattle.run.specs.Machine.{Started}
+use Rattle.run.specs.Calls.{Started}
 use Rattle.run.proofs.Seeds.{start-unit, start-one, start-all}
 use Rattle.run.proofs.initial.seed_cells.Statement.{statement}
 use Rattle.run.proofs.initial.seed_cells.Tie as tie
