@@ -176,7 +176,7 @@ def books():
 
 def lower(under, book, stack):
     """LOWER's number, place and count with so much stack, or None where that is too little."""
-    request = struct.pack("<BII", 1, FULL, len(book)) + book
+    request = struct.pack("<BBII", 0, 1, FULL, len(book)) + book
     done = subprocess.run([*under, SERVICE, str(stack)], input=request, stdout=subprocess.PIPE, stderr=subprocess.DEVNULL)
     return struct.unpack("<III", done.stdout[:12]) if done.returncode == 0 else None
 
