@@ -2,6 +2,8 @@
 //! can meet, each number that the table check judges, depth, counts, lengths,
 //! cells and witness entries on both sides of their limits.
 
+use model::lower::node::*;
+
 use crate::stock::*;
 use crate::writer::Writer;
 use crate::Case;

@@ -9,22 +9,6 @@ use crate::Case;
 /// A node: its kind and its operands.
 pub type Node = (u8, u16, u16);
 
-pub const IDEN: u8 = 1;
-pub const UNIT: u8 = 2;
-pub const INJL: u8 = 3;
-pub const INJR: u8 = 4;
-pub const TAKE: u8 = 5;
-pub const DROP: u8 = 6;
-pub const COMP: u8 = 7;
-pub const CASE: u8 = 8;
-pub const PAIR: u8 = 9;
-pub const ASSERTL: u8 = 10;
-pub const ASSERTR: u8 = 11;
-pub const FAIL: u8 = 12;
-pub const WITNESS: u8 = 13;
-pub const SCRIBE: u8 = 14;
-pub const JET: u8 = 15;
-
 /// What a call of RUN is given, but for its cells.
 #[derive(Clone)]
 pub struct Table {

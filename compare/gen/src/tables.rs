@@ -1,6 +1,8 @@
 //! Node tables for RUN, each beside a book and a witness list: random ones that
 //! mostly run through, loose ones that are mostly stopped, damaged ones.
 
+use model::lower::node::*;
+
 use crate::damage::strike;
 use crate::rng::Rng;
 use crate::stock::*;

@@ -1,10 +1,11 @@
 //! RUN in Rattle, called as the plug-in's host calls it, against the model.
 
 use gen::rng::Rng;
-use gen::stock::{bytes, Table, UNIT};
+use gen::stock::{bytes, Table};
 use gen::{damage, edges, hostile, systematic, tables, typed, Case};
 use model::book::{self, Kind};
 use model::lower::lower;
+use model::lower::node::UNIT;
 use model::run::{run_within, Outcome};
 
 use crate::service::{least_room, Answer, Service, FULL, LONGER};
