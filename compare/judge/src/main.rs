@@ -26,6 +26,7 @@ use std::process::ExitCode;
 
 use gen::{damage, hostile, scoped, systematic, typed, Case};
 use model::book;
+use model::check::check;
 use service::{Service, Start};
 
 /// Where the stored answers and READ's vectors are, from this crate.
@@ -274,11 +275,11 @@ fn replay() -> Result<(), String> {
     Ok(())
 }
 
-/// Books from files.
+/// Books from files, each of which CHECK passes.
 fn given(paths: &[&str]) -> Result<Vec<Case>, String> {
     let one = |path: &&str| {
         let book = std::fs::read(path).map_err(|error| format!("{path}: {error}"))?;
-        book::read(&book).map_err(|refusal| format!("{path}: {refusal:?}"))?;
+        check(&book).map_err(|refusal| format!("{path}: {refusal:?}"))?;
         Ok(Case {
             label: path.to_string(),
             book,
