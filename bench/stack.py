@@ -219,7 +219,8 @@ def tables():
     yield "4,096 deep by pair on the left", plain, deep(PAIR, 0)
     yield "4,097 deep", plain, deep(PAIR, 1, 4097)
     yield "add_8", plain, adding()
-    yield "pairs until the cells are full", plain, table((IDEN, 0, 0), (PAIR, 0, 0), *((COMP, k, k) for k in range(1, 18)))
+    doubled = ((COMP, k, k) for k in range(1, 18))
+    yield "pairs until the cells are full", plain, table((IDEN, 0, 0), (PAIR, 0, 0), *doubled)
 
 
 def calls():
