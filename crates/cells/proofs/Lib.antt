@@ -1,4 +1,5 @@
 pub mod Outs
+pub mod Numbers
 pub mod Shapes
 pub mod Keepings
 pub mod Words

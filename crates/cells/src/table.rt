@@ -1,9 +1,12 @@
 // Tables of five bytes an entry, and cells that are stored one after another.
 ghost use mathlib.Core.Path.{_≡_};
+ghost use Prim.Native.Nat.{_<_};
 ghost use lib.ListN.{getD};
+ghost use Rattle.book.specs.Format.{wordAt};
 ghost use Rattle.cells.specs.Entries.{kindAt, leftAt, rightAt};
 ghost use Rattle.cells.specs.Cells.{store};
 ghost use Rattle.cells.specs.Keeping.{Fresh, Keeps};
+use book::word::word;
 
 // The kinds of cells: document 01, CHECK and the meanings.
 pub const UNIT: u8 = 1;
@@ -29,6 +32,17 @@ fn byte(t: &[u8], i: usize) -> u8
     if i < t.len() { t[i] } else { 0 }
 }
 
+// The two bytes at i and after it as a number. Where both are there, one test is enough.
+fn pair_at(t: &[u8], i: usize) -> u16
+    requires { ⌜ i < 1000000 ⌝ }
+    ensures { λ r. ⌜ r ≡ wordAt (now (t .entry)) i ⌝ }
+{
+    if i + 1 < t.len() {
+        return word(t, i);
+    }
+    byte(t, i) as u16
+}
+
 pub fn kind_at(t: &[u8], n: u16) -> u8
     ensures { λ r. ⌜ r ≡ kindAt (now (t .entry)) n ⌝ }
 {
@@ -38,15 +52,13 @@ pub fn kind_at(t: &[u8], n: u16) -> u8
 pub fn left_at(t: &[u8], n: u16) -> u16
     ensures { λ r. ⌜ r ≡ leftAt (now (t .entry)) n ⌝ }
 {
-    let at = 5 * (n as usize);
-    (byte(t, at + 1) as u16) + 256 * (byte(t, at + 2) as u16)
+    pair_at(t, 5 * (n as usize) + 1)
 }
 
 pub fn right_at(t: &[u8], n: u16) -> u16
     ensures { λ r. ⌜ r ≡ rightAt (now (t .entry)) n ⌝ }
 {
-    let at = 5 * (n as usize);
-    (byte(t, at + 3) as u16) + 256 * (byte(t, at + 4) as u16)
+    pair_at(t, 5 * (n as usize) + 3)
 }
 
 // With so many cells used, the next one is to be stored.

@@ -28,23 +28,23 @@ use nodes::given::is_typed;
 const DEEPEST: usize = 4096;
 
 // Modes. From FAILED on they say how the run ended; refusals by their numbers.
-const ENTER: u8 = 0;
+const ENTER: u16 = 0;
 
-const BACK: u8 = 1;
+const BACK: u16 = 1;
 
-const DONE: u8 = 2;
+const DONE: u16 = 2;
 
-const FAILED: u8 = 3;
+const FAILED: u16 = 3;
 
-const STEEP: u8 = 16;
+const STEEP: u16 = 16;
 
-const WITNESS: u8 = 17;
+const WITNESS: u16 = 17;
 
-const CELLS: u8 = 18;
+const CELLS: u16 = 18;
 
-const STUCK: u8 = 19;
+const STUCK: u16 = 19;
 
-const JET: u8 = 20;
+const JET: u16 = 20;
 
 // Frames' codes: what is left to do once a child has given a value.
 const SKIP: u8 = 0;
@@ -61,7 +61,7 @@ const PAIRED: u8 = 5;
 
 // A node to be entered on a cell, a cell to be handed back, or an end at a node; the number of frames and of cells.
 pub struct State {
-    pub mode: u8,
+    pub mode: u16,
     pub node: u16,
     pub value: u16,
     pub depth: usize,
@@ -82,7 +82,7 @@ fn back_with(s: State, v: u16) -> State
 }
 
 // The run ends at the state's node.
-fn end_with(s: State, mode: u8) -> State
+fn end_with(s: State, mode: u16) -> State
     requires { ⌜ 3 ≤ mode ⌝ }
     ensures { λ r. ⌜ Answers s (λ w. halt 0 (endOf mode) (s .node)) r ⌝ }
 {

@@ -146,7 +146,7 @@ fn run_machine(
 }
 
 // A refusal that ended a run, by its number.
-fn fault_of(mode: u8) -> Fault
+fn fault_of(mode: u16) -> Fault
     requires { ⌜ (2 < mode) × (mode ≡ 3 → ⊥) ⌝ }
     ensures { λ f. ⌜ refuses f ≡ endOf mode ⌝ }
 {
