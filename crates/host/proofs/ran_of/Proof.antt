@@ -1,7 +1,7 @@
 -- `ran_of` meets its contract: in each arm the answer is known.
 -- Assumes nothing.
 use borrow.Author.Needs.{needs}
-use mathlib.Core.Path.{sym, ap}
+use mathlib.Core.Path.{sym, ap, _∙_}
 use Rattle.host.specs.Outcome.{ranOf}
 use Rattle.host.proofs.ran_of.Statement.{statement}
 use Rattle.host.proofs.ran_of.Tie as tie
@@ -14,10 +14,12 @@ ran-of-spec =
     (λ c. search needs)
     (λ c. search needs)
     (λ c. search needs)
+    (λ c κs. search needs)
     (λ c. search needs)
     (λ c κs. search needs)
     (λ c. search needs)
     (λ c. search needs)
+    (λ c κs. search needs)
     (λ c. sym (ap ranOf (c .before .answer .given .1)))
-    (λ c. sym (ap ranOf (c .enum-told .given .1)))
-    (λ c. rw (c .before .fault-number .ensures) (sym (ap ranOf (c .before .before .before .answer2 .given .1)))))
+    (λ c. c .no-value .ensures ∙ sym (ap ranOf (c .before .enum-told .given .1)))
+    (λ c. c .no-value2 .ensures ∙ rw (c .before .before .fault-number .ensures) (sym (ap ranOf (c .before .before .before .before .answer2 .given .1)))))
