@@ -16,7 +16,7 @@
  *   there.
  * - The table that is written shares no byte with what is read.
  * - The thread has stack enough. LOWER took up to 1,167,360 bytes on the worst books that we know, and 1.25 MB was
- *   always enough. RUN does not recurse. docs/PERFORMANCE.md has what was measured.
+ *   always enough. RUN took 61,440 bytes, whatever it was given. docs/PERFORMANCE.md has what was measured.
  *
  * LOWER stores at most 65,535 nodes and ends soon. RUN may take long: a table of some dozen nodes can say more steps
  * than a machine lives to see, and there is no limit on them yet.
