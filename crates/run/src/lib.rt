@@ -26,7 +26,7 @@ mod initial;
 mod jets;
 mod machine;
 mod nodes;
-mod table;
+pub mod table;
 
 // RUN's answer: a value's cell and how many cells are used, a failure, or a refusal.
 pub enum RunAnswer {

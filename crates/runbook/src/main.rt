@@ -1,0 +1,178 @@
+// Runs a book on standard input and prints its value, `failed`, or its refusal. The book's length stands before it, two bytes, low
+// first; the witness list follows it. The book is lowered without symbols.
+use compile::LowerAnswer;
+use compile::lower;
+use libc::STDIN_FILENO;
+use libc::STDOUT_FILENO;
+use run::RunAnswer;
+use run::run;
+use run::table::LEFT;
+use run::table::RIGHT;
+use run::table::UNIT;
+use run::table::kind_at;
+use run::table::left_at;
+use run::table::right_at;
+
+// An entry for each of the 65,536 names that a witness may have: what follows is never read.
+const LIST: usize = 131072;
+
+// Room for 65,535 nodes, or cells, of five bytes.
+const TABLE: usize = 327675;
+
+// A value's text is cut after so many characters: a value that shares its parts may be wider than the world.
+const MOST: usize = 65536;
+
+// In the row of what is left to write: a pair's second part is written, and its parenthesis is to be closed. No cell has this number.
+const CLOSE: u16 = 65535;
+
+// Where the text of a value is: its length so far, as if nothing were cut; how many pairs are open; the cell that is next, unless one
+// was just written whole.
+struct Place {
+    len: usize,
+    open: usize,
+    cell: u16,
+    whole: bool,
+}
+
+fn print(text: &[u8]) {
+    io::write_all(STDOUT_FILENO, text);
+}
+
+// Puts a character at a place, if the text is not full.
+fn put(text: &mut [u8], at: usize, c: u8) {
+    if at < text.len() {
+        text[at] = c;
+    }
+}
+
+// Two characters, and then a cell or what comes after one.
+fn put_two(text: &mut [u8], s: Place, a: u8, b: u8, cell: u16, whole: bool) -> Place {
+    put(text, s.len, a);
+    put(text, s.len + 1, b);
+    Place {
+        len: s.len + 2,
+        open: s.open,
+        cell: cell,
+        whole: whole,
+    }
+}
+
+// Opens a pair: its second part is left to write.
+fn open(text: &mut [u8], row: &mut [u16], s: Place, first: u16, second: u16) -> Place {
+    let at = s.open;
+    put(text, s.len, b'(');
+    row[at] = second;
+    Place {
+        len: s.len + 1,
+        open: at + 1,
+        cell: first,
+        whole: false,
+    }
+}
+
+// Begins the next cell.
+fn begin(cells: &[u8], text: &mut [u8], row: &mut [u16], s: Place) -> Place {
+    let part = left_at(cells, s.cell);
+    match kind_at(cells, s.cell) {
+        UNIT => put_two(text, s, b'(', b')', 0, true),
+        LEFT => put_two(text, s, b'L', b' ', part, false),
+        RIGHT => put_two(text, s, b'R', b' ', part, false),
+        _ => open(text, row, s, part, right_at(cells, s.cell)),
+    }
+}
+
+// Goes on in the pair that was opened last: to its second part, or to its end.
+fn go_on(text: &mut [u8], row: &mut [u16], s: Place) -> Place {
+    let at = s.open - 1;
+    let second = row[at];
+    if second == CLOSE {
+        put(text, s.len, b')');
+        return Place {
+            len: s.len + 1,
+            open: at,
+            cell: 0,
+            whole: true,
+        };
+    }
+    row[at] = CLOSE;
+    put_two(text, s, b',', b' ', second, false)
+}
+
+// Writes a cell's text, as much as there is room for, and answers how long it is so far as it was looked at: at most two more.
+fn spell(cells: &[u8], cell: u16, text: &mut [u8], row: &mut [u16]) -> usize {
+    let mut s = Place {
+        len: 0,
+        open: 0,
+        cell: cell,
+        whole: false,
+    };
+    while s.len <= text.len() {
+        if s.whole {
+            if s.open == 0 {
+                break;
+            }
+            s = go_on(text, row, s);
+        } else {
+            s = begin(cells, text, row, s);
+        }
+    }
+    s.len
+}
+
+// A pair is open for each parenthesis in the text that was written, so that the row is as long as the text, and one more.
+fn print_value(cells: &[u8], cell: u16) {
+    let mut text = [0u8; MOST];
+    let mut row = [0u16; 65537];
+    let n = spell(cells, cell, &mut text, &mut row);
+    print(b"value\n");
+    if MOST < n {
+        print(&text);
+        print(b" ...\n");
+    } else {
+        print(&text[..n]);
+        print(b"\n");
+    }
+}
+
+fn run_nodes(book: &[u8], witnesses: &[u8], nodes: &[u8], count: u16) {
+    let mut cells = [0u8; TABLE];
+    match run(book, witnesses, nodes, count as u32, &mut cells) {
+        RunAnswer::Value { cell, count } => print_value(&cells, cell),
+        RunAnswer::Failed => print(b"failed\n"),
+        RunAnswer::Refused(why) => console::print_refusal(why),
+    }
+}
+
+fn run_book(book: &[u8], witnesses: &[u8]) {
+    let mut nodes = [0u8; TABLE];
+    match lower(book, false, &mut nodes) {
+        LowerAnswer::Nodes(count) => run_nodes(book, witnesses, &nodes, count),
+        LowerAnswer::Refused(why) => console::print_refusal(why),
+    }
+}
+
+// How many bytes of the buffer are the book, where `n` of the announced ones are there. A book that ends early must not be run, though
+// what is there may be a book of its own: it gets an odd number of bytes, by a zero byte at its end. Records have an even number, so
+// READ refuses it, as a rule for the record that is cut.
+fn book_size(announced: usize, n: usize) -> usize {
+    if n < announced {
+        return n + 1 - n % 2;
+    }
+    n
+}
+
+fn low_first(a: u8, b: u8) -> u16 {
+    (a as u16) + 256 * (b as u16)
+}
+
+fn main() {
+    let mut head = [0u8; 2];
+    let mut buffer = io::large_buffer();
+    let mut list = [0u8; LIST];
+    io::read_full(STDIN_FILENO, &mut head);
+    let announced = low_first(head[0], head[1]) as usize;
+    let n = io::read_full(STDIN_FILENO, &mut buffer[..announced]);
+    let w = io::read_full(STDIN_FILENO, &mut list);
+    let size = book_size(announced, n);
+    run_book(&buffer[..size], &list[..w]);
+}
