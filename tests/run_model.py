@@ -9,7 +9,7 @@ the others.
 
 from typing import NamedTuple
 
-from vectors import KINDS
+from vectors import ENTRY, KINDS, WIDTH
 from booklib import MARKS
 from read_model import read, record_at
 
@@ -17,7 +17,6 @@ NODES, STEEP, WITNESS, CELLS, STUCK, JET = range(15, 21)
 
 MOST_ENTRIES = 65535
 MOST_DEPTH = 4096
-ENTRY = 5  # bytes of a node, and of a cell
 
 CHILDREN = {
     "injl": (1,), "injr": (1,), "take": (1,), "drop": (1,), "comp": (1, 2), "case": (1, 2),
@@ -42,13 +41,6 @@ class Refused(Exception):
 
 class Failed(Exception):
     """FAILED."""
-
-
-def entries(table):
-    """The whole entries of a table: kind and two numbers each."""
-    for at in range(0, len(table) - ENTRY + 1, ENTRY):
-        kind, *rest = table[at : at + ENTRY]
-        yield kind, rest[0] + 256 * rest[1], rest[2] + 256 * rest[3]
 
 
 def records_of(book):
@@ -86,9 +78,9 @@ def table_of(records, data, count):
         raise Refused(NODES, 0)
     if count > MOST_ENTRIES:
         raise Refused(NODES, MOST_ENTRIES)
-    if len(data) // ENTRY < count:
-        raise Refused(NODES, len(data) // ENTRY)
-    nodes = list(entries(data[: ENTRY * count]))
+    if len(data) // WIDTH < count:
+        raise Refused(NODES, len(data) // WIDTH)
+    nodes = list(ENTRY.iter_unpack(data[: WIDTH * count]))
     for number, node in enumerate(nodes):
         if not is_formed(records, number, node):
             raise Refused(NODES, number)
@@ -240,7 +232,7 @@ def run(book, witnesses, nodes, count, size):
     records = records_of(book)
     try:
         table = table_of(records, nodes, count)
-        state = Run(records, witnesses, table, min(size // ENTRY, MOST_ENTRIES))
+        state = Run(records, witnesses, table, min(size // WIDTH, MOST_ENTRIES))
         state.start()
         cell = state.whole()
     except Refused as refused:

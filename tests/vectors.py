@@ -7,6 +7,7 @@ crates/NAME/stdout: how many vectors there were, and that none was wrong.
 
 import argparse
 import os
+import struct
 import sys
 
 HERE = os.path.dirname(os.path.abspath(__file__))
@@ -19,6 +20,10 @@ from booklib import encode
 LISTING = "tu; ts 0 0; vu 0; vr 1 2; pi 7; ec 1 3; sa 4 5; ev 1 7; eb 1 1 6 7"
 LISTING_NODES = "scribe 3; iden; pair 0 1; iden; take 3; comp 2 4"
 
+# A node or a cell in its table: its kind and two numbers, low byte first.
+ENTRY = struct.Struct("<BHH")
+WIDTH = ENTRY.size  # five bytes
+
 # Document 01, "Stored order": the kinds of nodes, from 1 on.
 KINDS = (
     "iden unit injl injr take drop comp case pair assertl assertr fail witness scribe jet"
@@ -30,17 +35,13 @@ def book(*texts):
     return encode("\n".join(texts), "vector", raw=True)
 
 
-def low_first(value, width):
-    return value.to_bytes(width, "little")
-
-
 def packed(*fields):
     """Numbers with their widths, each low byte first."""
-    return b"".join(low_first(value, width) for value, width in fields)
+    return b"".join(value.to_bytes(width, "little") for value, width in fields)
 
 
 def table_of(text, kinds=KINDS):
-    """A table from text: entries of five bytes, each its kind and two numbers.
+    """A table from text: entries, each its kind and two numbers.
 
     A kind may also be a number, so that it can be a wrong one; numbers that
     are left out are 0.
@@ -49,10 +50,9 @@ def table_of(text, kinds=KINDS):
 
 
 def entry(words, kinds):
-    kind, *numbers = words
+    kind, left, right = (*words, 0, 0)[:3]
     number = int(kind) if kind.isdigit() else kinds.index(kind) + 1
-    left, right = [int(word) for word in numbers] + [0] * (2 - len(numbers))
-    return packed((number, 1), (left, 2), (right, 2))
+    return ENTRY.pack(number, int(left), int(right))
 
 
 def stored(path):
