@@ -131,7 +131,10 @@ fn is_right(
     cells: &mut [u8],
 ) -> bool {
     fill(cells);
-    if !is_answer(head, run(book, witnesses, nodes, number_at(head, NODES), cells)) {
+    if !is_answer(
+        head,
+        run(book, witnesses, nodes, number_at(head, NODES), cells),
+    ) {
         return false;
     }
     is_just(cells, due)
@@ -256,8 +259,16 @@ fn is_read_right(
 ) -> bool {
     io::read_full(STDIN_FILENO, book);
     io::read_full(STDIN_FILENO, witnesses);
-    read_table(nodes, size_at(head, GIVEN_NODES), number_at(head, NODES_GROWTH));
-    read_table(due, size_at(head, GIVEN_CELLS), number_at(head, CELLS_GROWTH));
+    read_table(
+        nodes,
+        size_at(head, GIVEN_NODES),
+        number_at(head, NODES_GROWTH),
+    );
+    read_table(
+        due,
+        size_at(head, GIVEN_CELLS),
+        number_at(head, CELLS_GROWTH),
+    );
     if is_number(head, RESULT, 0) {
         return is_right(head, book, witnesses, nodes, due, cells);
     }
@@ -342,11 +353,5 @@ fn main() {
     let mut nodes = [0u8; MOST_TABLE];
     let mut due = [0u8; MOST_TABLE];
     let mut cells = [0u8; MOST_TABLE];
-    run_all(
-        &mut book,
-        &mut witnesses,
-        &mut nodes,
-        &mut due,
-        &mut cells,
-    );
+    run_all(&mut book, &mut witnesses, &mut nodes, &mut due, &mut cells);
 }

@@ -1,5 +1,8 @@
 // Runs a book on standard input and prints its value, `failed`, or its refusal. The book's length stands before it, two bytes, low
 // first; the witness list follows it. The book is lowered without symbols.
+ghost use mathlib.Core.Path.{_≡_};
+ghost use Prim.Native.Nat.{_+_, _≤_, _<_};
+ghost use lib.ListN.{length};
 use compile::LowerAnswer;
 use compile::lower;
 use libc::STDIN_FILENO;
@@ -25,8 +28,8 @@ const MOST: usize = 65536;
 // In the row of what is left to write: a pair's second part is written, and its parenthesis is to be closed. No cell has this number.
 const CLOSE: u16 = 65535;
 
-// Where the text of a value is: its length so far, as if nothing were cut; how many pairs are open; the cell that is next, unless one
-// was just written whole.
+// Where the text of a value is: its length, with what did not fit; how many pairs are open; the cell that is next, unless one was just
+// written whole.
 struct Place {
     len: usize,
     open: usize,
@@ -38,15 +41,18 @@ fn print(text: &[u8]) {
     io::write_all(STDOUT_FILENO, text);
 }
 
-// Puts a character at a place, if the text is not full.
+// A character at a place, if it fits.
 fn put(text: &mut [u8], at: usize, c: u8) {
     if at < text.len() {
         text[at] = c;
     }
 }
 
-// Two characters, and then a cell or what comes after one.
-fn put_two(text: &mut [u8], s: Place, a: u8, b: u8, cell: u16, whole: bool) -> Place {
+// Two characters, and then the cell, or what follows a whole one.
+fn put_two(text: &mut [u8], s: Place, a: u8, b: u8, cell: u16, whole: bool) -> Place
+    requires { ⌜ s .len ≤ 65536 ⌝ }
+    ensures { λ r. ⌜ (r .len ≡ s .len + 2) × (r .open ≡ s .open) ⌝ }
+{
     put(text, s.len, a);
     put(text, s.len + 1, b);
     Place {
@@ -58,7 +64,10 @@ fn put_two(text: &mut [u8], s: Place, a: u8, b: u8, cell: u16, whole: bool) -> P
 }
 
 // Opens a pair: its second part is left to write.
-fn open(text: &mut [u8], row: &mut [u16], s: Place, first: u16, second: u16) -> Place {
+fn open(text: &mut [u8], row: &mut [u16], s: Place, first: u16, second: u16) -> Place
+    requires { ⌜ (s .open ≤ s .len) × (s .len ≤ 65536) ⌝ ∗ ⌜ 65536 < length (now row) ⌝ }
+    ensures { λ r. ⌜ (r .len ≡ s .len + 1) × (r .open ≡ s .open + 1) ⌝ }
+{
     let at = s.open;
     put(text, s.len, b'(');
     row[at] = second;
@@ -70,10 +79,14 @@ fn open(text: &mut [u8], row: &mut [u16], s: Place, first: u16, second: u16) -> 
     }
 }
 
-// Begins the next cell.
-fn begin(cells: &[u8], text: &mut [u8], row: &mut [u16], s: Place) -> Place {
+// Begins the next cell. No more pairs are open than there are characters, since each has its parenthesis.
+fn begin(cells: &[u8], text: &mut [u8], row: &mut [u16], s: Place) -> Place
+    requires { ⌜ (s .open ≤ s .len) × (s .len ≤ 65536) ⌝ ∗ ⌜ 65536 < length (now row) ⌝ }
+    ensures { λ r. ⌜ (s .len < r .len) × (r .open ≤ r .len) ⌝ }
+{
     let part = left_at(cells, s.cell);
-    match kind_at(cells, s.cell) {
+    let kind = kind_at(cells, s.cell);
+    match kind {
         UNIT => put_two(text, s, b'(', b')', 0, true),
         LEFT => put_two(text, s, b'L', b' ', part, false),
         RIGHT => put_two(text, s, b'R', b' ', part, false),
@@ -82,7 +95,10 @@ fn begin(cells: &[u8], text: &mut [u8], row: &mut [u16], s: Place) -> Place {
 }
 
 // Goes on in the pair that was opened last: to its second part, or to its end.
-fn go_on(text: &mut [u8], row: &mut [u16], s: Place) -> Place {
+fn go_on(text: &mut [u8], row: &mut [u16], s: Place) -> Place
+    requires { ⌜ (s .open ≤ s .len) × (s .len ≤ 65536) ⌝ ∗ ⌜ 65536 < length (now row) ⌝ ∗ ⌜ 0 < s .open ⌝ }
+    ensures { λ r. ⌜ (s .len < r .len) × (r .open ≤ r .len) ⌝ }
+{
     let at = s.open - 1;
     let second = row[at];
     if second == CLOSE {
@@ -98,15 +114,17 @@ fn go_on(text: &mut [u8], row: &mut [u16], s: Place) -> Place {
     put_two(text, s, b',', b' ', second, false)
 }
 
-// Writes a cell's text, as much as there is room for, and answers how long it is so far as it was looked at: at most two more.
-fn spell(cells: &[u8], cell: u16, text: &mut [u8], row: &mut [u16]) -> usize {
+// Writes the text of a cell into room for MOST characters, and answers its length, or more than MOST where it is cut.
+fn spell(cells: &[u8], cell: u16, text: &mut [u8], row: &mut [u16]) -> usize
+    requires { ⌜ 65536 < length (now row) ⌝ }
+{
     let mut s = Place {
         len: 0,
         open: 0,
         cell: cell,
         whole: false,
     };
-    while s.len <= text.len() {
+    while s.len <= MOST {
         if s.whole {
             if s.open == 0 {
                 break;
@@ -119,19 +137,26 @@ fn spell(cells: &[u8], cell: u16, text: &mut [u8], row: &mut [u16]) -> usize {
     s.len
 }
 
-// A pair is open for each parenthesis in the text that was written, so that the row is as long as the text, and one more.
-fn print_value(cells: &[u8], cell: u16) {
-    let mut text = [0u8; MOST];
-    let mut row = [0u16; 65537];
-    let n = spell(cells, cell, &mut text, &mut row);
+// Prints what is spelled of a cell.
+fn print_spelled(cells: &[u8], cell: u16, text: &mut [u8], row: &mut [u16])
+    requires { ⌜ 65536 < length (now row) ⌝ }
+{
+    let n = spell(cells, cell, text, row);
     print(b"value\n");
-    if MOST < n {
-        print(&text);
+    if text.len() < n {
+        print(text);
         print(b" ...\n");
     } else {
         print(&text[..n]);
         print(b"\n");
     }
+}
+
+// The row is one longer than the text: each of its entries has a parenthesis there.
+fn print_value(cells: &[u8], cell: u16) {
+    let mut text = [0u8; MOST];
+    let mut row = [0u16; 65537];
+    print_spelled(cells, cell, &mut text, &mut row);
 }
 
 fn run_nodes(book: &[u8], witnesses: &[u8], nodes: &[u8], count: u16) {
@@ -154,7 +179,10 @@ fn run_book(book: &[u8], witnesses: &[u8]) {
 // How many bytes of the buffer are the book, where `n` of the announced ones are there. A book that ends early must not be run, though
 // what is there may be a book of its own: it gets an odd number of bytes, by a zero byte at its end. Records have an even number, so
 // READ refuses it, as a rule for the record that is cut.
-fn book_size(announced: usize, n: usize) -> usize {
+fn book_size(announced: usize, n: usize) -> usize
+    requires { ⌜ n ≤ announced ⌝ }
+    ensures { λ r. ⌜ r ≤ announced ⌝ }
+{
     if n < announced {
         return n + 1 - n % 2;
     }
@@ -165,14 +193,19 @@ fn low_first(a: u8, b: u8) -> u16 {
     (a as u16) + 256 * (b as u16)
 }
 
+// Reads the book, into a part as long as it is announced, and the witness list, and runs them.
+fn run_input(book: &mut [u8], list: &mut [u8]) {
+    let n = io::read_full(STDIN_FILENO, book);
+    let w = io::read_full(STDIN_FILENO, list);
+    let size = book_size(book.len(), n);
+    run_book(&book[..size], &list[..w]);
+}
+
 fn main() {
     let mut head = [0u8; 2];
     let mut buffer = io::large_buffer();
     let mut list = [0u8; LIST];
     io::read_full(STDIN_FILENO, &mut head);
     let announced = low_first(head[0], head[1]) as usize;
-    let n = io::read_full(STDIN_FILENO, &mut buffer[..announced]);
-    let w = io::read_full(STDIN_FILENO, &mut list);
-    let size = book_size(announced, n);
-    run_book(&buffer[..size], &list[..w]);
+    run_input(&mut buffer[..announced], &mut list);
 }
