@@ -251,7 +251,7 @@ def tables():
         yield vector("bad", f"unit; {node}; unit; comp 0 2", no(NODES, 1), VALUES)
     for node in lines(GOOD):
         yield vector("good", f"unit; {node}; unit; comp 0 2", value(0, VALUE_CELLS), VALUES)
-    for node in ("injl 0", "pair 0 0", "assertl 0", "16", "scribe 0", "witness 0 1", "jet 11"):
+    for node in ("0", "16", "injl 0", "pair 0 0", "assertl 0", "scribe 0", "witness 0 1", "jet 11"):
         yield vector("bad at 0", node, no(NODES, 0))
     # The first of several; beyond the count nothing is looked at.
     yield vector("bad", "unit; unit; jet 11; 0; unit", no(NODES, 2))

@@ -26,6 +26,7 @@ MOST_STORED_BYTES = 1_000_000
 
 # What the program has room for: the constants of crates/run_vectors/src/main.rt.
 MOST_BOOK, MOST_WITNESSES, MOST_TABLE = 65536, 131072, 327690
+PLACES = 164  # how many it reads of a jet's bits
 
 INJL = 1 + KINDS.index("injl")
 
@@ -130,7 +131,7 @@ def every_two_bytes():
         for use in range(4):
             own = sides[bits * use : bits * (use + 1)]
             places += [*range(34 * use + 16, 34 * use, -1), *own[15::-1], *own[:15:-1]]
-        yield made._replace(result=bits - 16, places=bytes(places))
+        yield made._replace(result=bits - 16, places=bytes(places).ljust(PLACES, b"\0"))
 
 
 def with_bits(table, places, kind, number):

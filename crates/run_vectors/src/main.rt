@@ -2,10 +2,18 @@
 // A vector: fourteen numbers of four bytes, in the order of the constants below; the book, the witnesses, the given nodes, the given
 // cells, and the places of a jet's bits, if it has any. A table grows from what is given of it: each further entry is the one before,
 // its first number more by one if its growth is odd, its second if it is 2 or 3. Numbers are low byte first.
+ghost use Prim.Native.Nat.{_+_, _*_, _≤_, _<_};
+ghost use lib.ListN.{length};
 use book::fault::fault_number;
+use book::word::word;
 use libc::STDIN_FILENO;
 use run::RunAnswer;
 use run::run;
+use vectors::begins_with;
+use vectors::fill;
+use vectors::is_zero_from;
+use vectors::print_totals;
+use vectors::print_wrong;
 
 // The expected answer, the count of nodes, the bytes of the cells, of the book, of the witnesses and of the nodes; the bytes given of
 // the nodes and of the expected cells, each with its growth; how many bits the result of a jet has, or 0.
@@ -44,27 +52,29 @@ const MOST_WITNESSES: usize = 131072;
 
 const MOST_TABLE: usize = 327690;
 
-// A jet stands four times in its table, since a run takes longer to begin than to add two bytes.
-const USES: usize = 4;
-
-// The places of the bits of each use: of 16 nodes, of 16 cells, and of at most nine cells of the result.
-const MOST_PLACES: usize = 164;
+// A jet stands in its table four times, since a run takes longer to begin than to add two bytes. For each the places of its bits: 16
+// nodes, 16 cells, and at most nine cells of the result.
+const PLACES: usize = 164;
 
 // Number k of a head.
-fn number_at(head: [u8; 56], k: usize) -> u32 {
+fn number_at(head: [u8; 56], k: usize) -> u32
+    requires { ⌜ k < 14 ⌝ }
+{
     let at = 4 * k;
-    (head[at] as u32)
-        + 256 * (head[at + 1] as u32)
-        + 65536 * (head[at + 2] as u32)
-        + 16777216 * (head[at + 3] as u32)
+    (word(&head, at) as u32) + 65536 * (word(&head, at + 2) as u32)
 }
 
 // The same where it is a length.
-fn size_at(head: [u8; 56], k: usize) -> usize {
+fn size_at(head: [u8; 56], k: usize) -> usize
+    requires { ⌜ k < 14 ⌝ }
+    ensures { λ r. ⌜ r < 4294967296 ⌝ }
+{
     number_at(head, k) as usize
 }
 
-fn is_number(head: [u8; 56], k: usize, n: u16) -> bool {
+fn is_number(head: [u8; 56], k: usize, n: u16) -> bool
+    requires { ⌜ k < 14 ⌝ }
+{
     number_at(head, k) == (n as u32)
 }
 
@@ -93,35 +103,7 @@ fn is_answer(head: [u8; 56], answer: RunAnswer) -> bool {
     }
 }
 
-// The byte at k, or 0 past the end.
-fn byte(row: &[u8], k: usize) -> u8 {
-    if k < row.len() { row[k] } else { 0 }
-}
-
-// Whether a table has just these bytes, and zeros after them.
-fn is_just(table: &[u8], due: &[u8]) -> bool {
-    if table.len() < due.len() {
-        return false;
-    }
-    let mut k: usize = 0;
-    while k < table.len() {
-        if table[k] != byte(due, k) {
-            return false;
-        }
-        k += 1;
-    }
-    true
-}
-
-// RUN is to write every byte, whatever the table held.
-fn fill(table: &mut [u8]) {
-    let mut k: usize = 0;
-    while k < table.len() {
-        table[k] = 165;
-        k += 1;
-    }
-}
-
+// RUN is to write every byte, whatever the table held: the cells that are due, and zeros.
 fn is_right(
     head: [u8; 56],
     book: &[u8],
@@ -137,23 +119,37 @@ fn is_right(
     ) {
         return false;
     }
-    is_just(cells, due)
+    if !begins_with(cells, due) {
+        return false;
+    }
+    is_zero_from(cells, due.len())
 }
 
-// At `to` the number that stands five bytes before, and more.
-fn put_more(table: &mut [u8], to: usize, more: u32) {
-    let n = (table[to - 5] as u32) + 256 * (table[to - 4] as u32) + more;
+// The number that stands five bytes before, and more.
+fn put_more(table: &mut [u8], to: usize, more: u8)
+    requires { ⌜ 5 ≤ to ⌝ ∗ ⌜ to + 1 < length (now table) ⌝ }
+{
+    let n = (word(table, to - 5) as u32) + (more as u32);
     table[to] = (n % 256) as u8;
     table[to + 1] = (n / 256 % 256) as u8;
 }
 
-// Each entry from a place on is the one before it, its numbers more by the bits of `growth`.
-fn grow(table: &mut [u8], from: usize, growth: u32) {
+// An entry like the one before it, its numbers more by the bits of `growth`.
+fn put_next(table: &mut [u8], at: usize, growth: u32)
+    requires { ⌜ 5 ≤ at ⌝ ∗ ⌜ at + 5 ≤ length (now table) ⌝ }
+{
+    put_more(table, at + 1, (growth % 2) as u8);
+    put_more(table, at + 3, (growth / 2 % 2) as u8);
+    table[at] = table[at - 5];
+}
+
+// Each entry from a place on is made of the one before it.
+fn grow(table: &mut [u8], from: usize, growth: u32)
+    requires { ⌜ 5 ≤ from ⌝ ∗ ⌜ from ≤ length (now table) ⌝ }
+{
     let mut at = from;
-    while at + 5 <= table.len() {
-        table[at] = table[at - 5];
-        put_more(table, at + 1, growth % 2);
-        put_more(table, at + 3, growth / 2 % 2);
+    while 5 <= table.len() - at {
+        put_next(table, at, growth);
         at += 5;
     }
 }
@@ -169,45 +165,57 @@ fn read_table(table: &mut [u8], given: usize, growth: u32) {
     }
 }
 
-// Entries at these places get this kind, or the next, by the bits of n, low first.
-fn put_bits(table: &mut [u8], places: &[u8], kind: u8, n: u32) {
+// An entry becomes of this kind, or of the next where n is odd.
+fn put_bit(table: &mut [u8], place: u8, kind: u8, n: u32)
+    requires { ⌜ kind < 255 ⌝ }
+{
+    let at = 5 * (place as usize);
+    if at < table.len() {
+        table[at] = kind + ((n % 2) as u8);
+    }
+}
+
+// So do the entries at `count` places from one on, by the bits of n, low first.
+fn put_bits(table: &mut [u8], places: &[u8], from: usize, count: usize, kind: u8, n: u32)
+    requires { ⌜ from + count ≤ length (now places) ⌝ ∗ ⌜ kind < 255 ⌝ }
+{
     let mut rest = n;
     let mut k: usize = 0;
-    while k < places.len() {
-        let at = 5 * (places[k] as usize);
-        if at < table.len() {
-            table[at] = kind + ((rest % 2) as u8);
-        }
+    while k < count {
+        put_bit(table, places[from + k], kind, rest);
         rest = rest / 2;
         k += 1;
     }
 }
 
-// add_8 has nine bits, carry first; eq_8 has one.
-fn result_of(bits: usize, a: u32, b: u32) -> u32 {
+// On the bytes of n: add_8 has nine bits, the carry the highest; eq_8 has one.
+fn result_of(bits: usize, n: u32) -> u32 {
+    let a = n / 256;
+    let b = n % 256;
     if bits == 9 {
         return a + b;
     }
     if a == b { 1 } else { 0 }
 }
 
-// One of a jet's uses, and its expected cells, on the two bytes of n.
-fn put_bytes(nodes: &mut [u8], due: &mut [u8], places: &[u8], n: u32) {
-    put_bits(nodes, &places[..16], 3, n);
-    put_bits(due, &places[16..32], 2, n);
-    let result = result_of(places.len() - 32, n / 256, n % 256);
-    put_bits(due, &places[32..], 2, result);
+// One of a jet's uses, whose places begin at a place: the two bytes of n, and what is due for them.
+fn put_use(nodes: &mut [u8], due: &mut [u8], places: &[u8], at: usize, bits: usize, n: u32)
+    requires { ⌜ at + 32 + bits ≤ length (now places) ⌝ }
+{
+    put_bits(nodes, places, at, 16, 3, n);
+    put_bits(due, places, at + 16, 16, 2, n);
+    put_bits(due, places, at + 32, bits, 2, result_of(bits, n));
 }
 
-// All uses of a jet in a table: on n and the numbers after it.
-fn put_uses(nodes: &mut [u8], due: &mut [u8], places: &[u8], n: u32) {
-    let width = places.len() / USES;
-    let mut k: usize = 0;
-    while k < USES {
-        let at = k * width;
-        put_bytes(nodes, due, &places[at..at + width], n + (k as u32));
-        k += 1;
-    }
+// All uses of a jet: n and the three numbers after it.
+fn put_uses(nodes: &mut [u8], due: &mut [u8], places: &[u8], bits: usize, n: u32)
+    requires { ⌜ 4 * (32 + bits) ≤ length (now places) ⌝ ∗ ⌜ bits ≤ 9 ⌝ ∗ ⌜ n ≤ 65536 ⌝ }
+{
+    let width = 32 + bits;
+    put_use(nodes, due, places, 0, bits, n);
+    put_use(nodes, due, places, width, bits, n + 1);
+    put_use(nodes, due, places, 2 * width, bits, n + 2);
+    put_use(nodes, due, places, 3 * width, bits, n + 3);
 }
 
 // The jet on every two bytes.
@@ -218,14 +226,17 @@ fn is_jet_right(
     due: &mut [u8],
     cells: &mut [u8],
     places: &[u8],
-) -> bool {
+    bits: usize,
+) -> bool
+    requires { ⌜ 4 * (32 + bits) ≤ length (now places) ⌝ ∗ ⌜ bits ≤ 9 ⌝ }
+{
     let mut n: u32 = 0;
     while n < 65536 {
-        put_uses(nodes, due, places, n);
+        put_uses(nodes, due, places, bits, n);
         if !is_right(head, book, b"", nodes, due, cells) {
             return false;
         }
-        n += USES as u32;
+        n += 4;
     }
     true
 }
@@ -238,14 +249,13 @@ fn is_next_jet_right(
     due: &mut [u8],
     cells: &mut [u8],
 ) -> bool {
-    let mut places = [0u8; MOST_PLACES];
     let bits = size_at(head, RESULT);
     if 9 < bits {
         return false;
     }
-    let n = USES * (32 + bits);
-    io::read_full(STDIN_FILENO, &mut places[..n]);
-    is_jet_right(head, book, nodes, due, cells, &places[..n])
+    let mut places = [0u8; PLACES];
+    io::read_full(STDIN_FILENO, &mut places);
+    is_jet_right(head, book, nodes, due, cells, &places, bits)
 }
 
 // The rest of a vector, read into all of its parts, and run.
@@ -275,7 +285,7 @@ fn is_read_right(
     is_next_jet_right(head, book, nodes, due, cells)
 }
 
-// The same, where the parts have room.
+// The same where the parts have room.
 fn is_next_right(
     head: [u8; 56],
     book: &mut [u8],
@@ -312,15 +322,6 @@ fn is_next_right(
         &mut due[..d],
         &mut cells[..c],
     )
-}
-
-fn print_wrong(i: u64) {
-    console::print_count(b"wrong", i);
-}
-
-fn print_totals(run: u64, wrong: u64) {
-    console::print_count(b"vectors", run);
-    console::print_count(b"wrong", wrong);
 }
 
 // Every vector, in room for the parts of any.

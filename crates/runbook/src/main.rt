@@ -3,6 +3,7 @@
 ghost use mathlib.Core.Path.{_≡_};
 ghost use Prim.Native.Nat.{_+_, _≤_, _<_};
 ghost use lib.ListN.{length};
+use book::word::word;
 use compile::LowerAnswer;
 use compile::lower;
 use libc::STDIN_FILENO;
@@ -189,10 +190,6 @@ fn book_size(announced: usize, n: usize) -> usize
     n
 }
 
-fn low_first(a: u8, b: u8) -> u16 {
-    (a as u16) + 256 * (b as u16)
-}
-
 // Reads the book, into a part as long as it is announced, and the witness list, and runs them.
 fn run_input(book: &mut [u8], list: &mut [u8]) {
     let n = io::read_full(STDIN_FILENO, book);
@@ -206,6 +203,6 @@ fn main() {
     let mut buffer = io::large_buffer();
     let mut list = [0u8; LIST];
     io::read_full(STDIN_FILENO, &mut head);
-    let announced = low_first(head[0], head[1]) as usize;
+    let announced = word(&head, 0) as usize;
     run_input(&mut buffer[..announced], &mut list);
 }
