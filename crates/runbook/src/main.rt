@@ -163,7 +163,7 @@ fn print_value(cells: &[u8], cell: u16) {
 fn run_nodes(book: &[u8], witnesses: &[u8], nodes: &[u8], count: u16) {
     let mut cells = [0u8; TABLE];
     match run(book, witnesses, nodes, count as u32, &mut cells) {
-        RunAnswer::Value { cell, count } => print_value(&cells, cell),
+        RunAnswer::Value { cell, .. } => print_value(&cells, cell),
         RunAnswer::Failed => print(b"failed\n"),
         RunAnswer::Refused(why) => console::print_refusal(why),
     }
@@ -177,9 +177,9 @@ fn run_book(book: &[u8], witnesses: &[u8]) {
     }
 }
 
-// How many bytes of the buffer are the book, where `n` of the announced ones are there. A book that ends early must not be run, though
-// what is there may be a book of its own: it gets an odd number of bytes, by a zero byte at its end. Records have an even number, so
-// READ refuses it, as a rule for the record that is cut.
+// How many bytes are the book, where n of the announced ones came. A book that ends early is not run, even if what came of it is a book
+// of its own: it gets a zero byte more if its number of bytes is even. Every record has an even number, so READ refuses it, by CUT at
+// the record that is not whole unless an earlier one is at fault.
 fn book_size(announced: usize, n: usize) -> usize
     requires { ⌜ n ≤ announced ⌝ }
     ensures { λ r. ⌜ r ≤ announced ⌝ }
