@@ -1,13 +1,14 @@
 #!/usr/bin/env python3
-"""Finds how much stack LOWER needs on the books that are worst for it, through the program of compare/library.
+"""Finds how much stack LOWER and RUN need on what is worst for them, through the program of compare/library.
 
-    bench/stack.py [WORD]...      every book, or those whose names have these words in them
+    bench/stack.py [WORD]...      every call, or those whose names have these words in them
 
 LOWER recurses as deep as a book's expressions nest, which READ bounds by 255. So each construct is nested in each of
 its own places as deep as may be: no mixture of constructs takes more than the dearest of them does. At the innermost
 place of those that are dearest stand, in turn, the searches and recipes that recurse by themselves.
-For each book it prints its bytes, the answer, and the least number of bytes of stack, to a page, with which the call
-returns. That the library does without more is a matter of its compilation, and the same on every x86-64.
+RUN keeps its depth in a row of its own; it is tried on tables that are as deep, as long or as full as may be.
+For each call it prints the request's bytes, the answer, and the least number of bytes of stack, to a page, with which
+the call returns. That the library does without more is a matter of its compilation, and the same on every x86-64.
 """
 import os
 import struct
@@ -24,6 +25,9 @@ FULL = 5 * 65535
 PAGE = 4096
 MOST = 1 << 27
 DEEPEST = 255
+
+# The kinds of nodes that tables for RUN are made of.
+IDEN, UNIT, INJL, INJR, DROP, COMP, PAIR, JET = 1, 2, 3, 4, 6, 7, 9, 15
 
 # A construct's record, nested in its field @. T is the unit type, P a pattern that ignores, E an expression of its
 # own, S a statement, F a function; @S is a statement, and @F a function, that holds what is nested.
@@ -174,19 +178,72 @@ def books():
         yield f"{nest}, in it a loop of 16 bits", nested(nest, fold_of("cw", 16))
 
 
-def lower(under, book, stack):
-    """LOWER's number, place and count with so much stack, or None where that is too little."""
-    request = struct.pack("<BII", 1, FULL, len(book)) + book
+def table(*nodes):
+    """Nodes as they lie in a table."""
+    return b"".join(struct.pack("<BHH", *node) for node in nodes)
+
+
+def deep(kind, side, depth=4096):
+    """A node of one kind in another, the last of them unit; `side` is the operand that is nested."""
+    wraps = ((kind, k, 0) if side == 0 else (kind, 0, k) for k in range(depth - 1))
+    return table((UNIT, 0, 0), *wraps)
+
+
+def adding():
+    """A byte doubled by add_8 a dozen times."""
+    byte = [(UNIT, 0, 0), (INJR, 0, 0), (PAIR, 1, 1), (PAIR, 2, 2), (PAIR, 3, 3)]
+    double = [(IDEN, 0, 0), (PAIR, 5, 5), (JET, 2, 0), (DROP, 5, 0), (COMP, 7, 8), (COMP, 6, 9)]
+    times = [(COMP, 4, 10), *((COMP, k, 10) for k in range(11, 22))]
+    return table(*byte, *double, *times)
+
+
+def values():
+    """A book whose 4,000 values all have a cell."""
+    book = Writer()
+    unit = book.put("tu")
+    for _ in range(4000):
+        book.put("vu", unit, names=[unit])
+    empty(book, unit)
+    return bytes(book.bytes)
+
+
+def tables():
+    """Node tables for RUN, each with its book."""
+    plain = pack("tu", []) + pack("et", [0, 0])
+    yield "unit alone", plain, table((UNIT, 0, 0))
+    yield "unit alone, beside 4,000 values", values(), table((UNIT, 0, 0))
+    yield "65,535 nodes", plain, table(*[(UNIT, 0, 0)] * 65534, (PAIR, 65533, 0))
+    yield "4,096 deep by injl", plain, deep(INJL, 0)
+    yield "4,096 deep by comp on the left", plain, deep(COMP, 0)
+    yield "4,096 deep by comp on the right", plain, deep(COMP, 1)
+    yield "4,096 deep by pair on the left", plain, deep(PAIR, 0)
+    yield "4,097 deep", plain, deep(PAIR, 1, 4097)
+    yield "add_8", plain, adding()
+    doubled = ((COMP, k, k) for k in range(1, 18))
+    yield "pairs until the cells are full", plain, table((IDEN, 0, 0), (PAIR, 0, 0), *doubled)
+
+
+def calls():
+    """Each call's name and request."""
+    for name, book in books():
+        yield f"LOWER: {name}", struct.pack("<BBII", 0, 1, FULL, len(book)) + book
+    for name, book, nodes in tables():
+        lengths = FULL, len(book), 0, len(nodes)
+        yield f"RUN: {name}", struct.pack("<BIIIII", 1, len(nodes) // 5, *lengths) + book + nodes
+
+
+def answer(under, request, stack):
+    """The call's number, place, count and cell with so much stack, or None where that is too little."""
     done = subprocess.run([*under, SERVICE, str(stack)], input=request, stdout=subprocess.PIPE, stderr=subprocess.DEVNULL)
-    return struct.unpack("<III", done.stdout[:12]) if done.returncode == 0 else None
+    return struct.unpack("<IIII", done.stdout[:16]) if done.returncode == 0 else None
 
 
-def least_stack(under, book):
-    """The least number of pages with which LOWER answers."""
+def least_stack(under, request):
+    """The least number of pages with which the call answers."""
     low, high = 0, MOST // PAGE
     while low + 1 < high:
         middle = (low + high) // 2 if high < MOST // PAGE else 2 * max(low, 16)
-        if lower(under, book, PAGE * middle):
+        if answer(under, request, PAGE * middle):
             high = middle
         else:
             low = middle
@@ -196,17 +253,19 @@ def least_stack(under, book):
 def main():
     build = os.path.join(ROOT, "compare", "library", "build")
     under = subprocess.run([build], stdout=subprocess.PIPE, text=True, check=True).stdout.splitlines()
-    worst = 0
-    for name, book in books():
+    worst = {}
+    for name, request in calls():
         if not all(word in name for word in sys.argv[1:]):
             continue
-        answer = lower(under, book, MOST)
-        if answer is None:
+        answered = answer(under, request, MOST)
+        if answered is None:
             raise SystemExit(f"{name}: no answer with {MOST} bytes of stack")
-        stack = PAGE * least_stack(under, book)
-        worst = max(worst, stack)
-        print(f"| {name} | {len(book)} | {answer} | {stack} |", flush=True)
-    print(f"the most: {worst} bytes")
+        stack = PAGE * least_stack(under, request)
+        call = name.partition(":")[0]
+        worst[call] = max(worst.get(call, 0), stack)
+        print(f"| {name} | {len(request)} | {answered} | {stack} |", flush=True)
+    for call, stack in worst.items():
+        print(f"the most of {call}: {stack} bytes")
     return 0
 
 

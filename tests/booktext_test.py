@@ -225,6 +225,34 @@ class Errors(unittest.TestCase):
                 encode(text, "x", raw=True)
 
 
+class WitnessLists(unittest.TestCase):
+    TEXT = b"u: tu; one: vu @u; two: vu @u; et @u 0"
+
+    def listed(self, *words, data=TEXT):
+        return booktext("witnesses", *words, data=data)
+
+    def test_entries(self):
+        told = self.listed("-", "@two", "@one", "258")
+        self.assertEqual(told, (0, b"\2\0\1\0\2\1", ""))
+        self.assertEqual(self.listed("-"), (0, b"", ""))
+
+    def test_behind_the_book(self):
+        book = encode(self.TEXT.decode(), "x")
+        code, out, error = self.listed("--book", "-", "@two")
+        self.assertEqual((code, error), (0, ""))
+        self.assertEqual(out, bytes([len(book), 0]) + book + b"\2\0")
+
+    def test_no_entry(self):
+        told = self.listed("-", "@three")
+        self.assertEqual(told, (1, b"", "unknown label @three\n"))
+
+    def test_a_book_too_long(self):
+        long = b"tu;" * 32768
+        self.assertEqual(self.listed("-", data=long), (0, b"", ""))
+        told = self.listed("--book", "-", data=long)
+        self.assertEqual(told, (1, b"", "<stdin>: no book is 65536 bytes long\n"))
+
+
 class DamagedBooks(unittest.TestCase):
     def decoded(self, book):
         """The lines that come before the fault, and the fault."""

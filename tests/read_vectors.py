@@ -637,7 +637,7 @@ def hand_vectors():
 
 # --- Damaged copies of the examples -------------------------------------------
 
-CHANGED_BYTES = 22_000  # for each example, to keep the file small
+CHANGED_BYTES = 13_000  # for each example, to keep the file small
 MOST_CHANGES = 300
 
 

@@ -159,6 +159,11 @@ def record_of(text, labels, raw):
 
 def encode(text, name, raw=False):
     """The book that a text stands for; TextError with FILE:LINE if none."""
+    return encode_labelled(text, name, raw)[0]
+
+
+def encode_labelled(text, name, raw=False):
+    """The same, with the number of each labelled record."""
     book = bytearray()
     labels = {}
     number = 0
@@ -175,7 +180,13 @@ def encode(text, name, raw=False):
             if label is not None:
                 labels[label] = number
             number += 1
-    return bytes(book)
+    return bytes(book), labels
+
+
+def witness_list(words, labels):
+    """The list in which entry k is the record that word k stands for."""
+    entries = (field_of(word, labels) for word in words)
+    return b"".join(entry.to_bytes(2, "little") for entry in entries)
 
 
 def decode(book, name):

@@ -1,8 +1,12 @@
-//! Makes a wrong copy of the model's lowering for each edit in edits.txt.
+//! Makes a wrong copy of the model's lowering, or of its RUN, for each edit in
+//! edits.txt.
 
 use std::fmt::Write;
 use std::path::{Path, PathBuf};
 use std::{env, fs};
+
+/// The file of the model's RUN; any other is one of its lowering.
+const RUN: &str = "run.rs";
 
 /// An edit: some whole lines of a file, and what they become.
 struct Edit {
@@ -57,45 +61,58 @@ fn edited(text: &str, edit: &Edit) -> String {
     all.join("\n")
 }
 
-/// Copies the lowering into `to`, with the edit made in its file.
-fn copy(from: &Path, to: &Path, edit: &Edit) {
-    fs::create_dir_all(to).expect("a folder for the copy");
-    let mut found = false;
-    for entry in fs::read_dir(from).expect("the model's lowering") {
-        let path = entry.expect("a file of it").path();
-        let name = path
-            .file_name()
-            .expect("its name")
-            .to_str()
-            .expect("plain letters");
-        let text = fs::read_to_string(&path).expect("text");
-        let here = name == edit.file;
-        found |= here;
-        let text = if here { edited(&text, edit) } else { text };
-        fs::write(to.join(name), text).expect("the copy");
+/// Copies a file of the model into the folder `to`, with the edit made if it is
+/// the edit's: whether it was.
+fn copy(file: &Path, to: &Path, edit: &Edit) -> bool {
+    let name = file.file_name().expect("its name");
+    let text = fs::read_to_string(file).expect("text");
+    let here = name.to_str() == Some(&edit.file);
+    let text = if here { edited(&text, edit) } else { text };
+    fs::write(to.join(name), text).expect("the copy");
+    here
+}
+
+/// The files that an edit's copy is made of.
+fn files(model: &Path, edit: &Edit) -> Vec<PathBuf> {
+    if edit.file == RUN {
+        return vec![model.join(RUN)];
     }
-    assert!(found, "{}: there is no file {}", edit.label, edit.file);
+    let folder = fs::read_dir(model.join("lower")).expect("the model's lowering");
+    folder
+        .map(|entry| entry.expect("a file of it").path())
+        .collect()
 }
 
 fn main() {
     let here = PathBuf::from(env::var("CARGO_MANIFEST_DIR").expect("cargo sets it"));
     let out = PathBuf::from(env::var("OUT_DIR").expect("cargo sets it"));
-    let from = here.join("../model/src/lower");
+    let model = here.join("../model/src");
     println!("cargo:rerun-if-changed=edits.txt");
-    println!("cargo:rerun-if-changed={}", from.display());
-    let (mut modules, mut table) = (String::new(), String::new());
+    println!("cargo:rerun-if-changed={}", model.display());
+    let (mut modules, mut lowerings, mut runs) = (String::new(), String::new(), String::new());
     let text = fs::read_to_string(here.join("edits.txt")).expect("edits.txt");
     for (number, edit) in edits(&text).iter().enumerate() {
         let to = out.join(format!("m{number}"));
-        copy(&from, &to, edit);
-        let path = to.join("mod.rs");
+        fs::create_dir_all(&to).expect("a folder for the copy");
+        let copied = files(&model, edit)
+            .iter()
+            .filter(|file| copy(file, &to, edit))
+            .count();
+        assert!(copied == 1, "{}: no file {}", edit.label, edit.file);
+        let (list, made, path) = match edit.file == RUN {
+            true => (&mut runs, "wrong_run", to.join(RUN)),
+            false => (&mut lowerings, "wrong", to.join("mod.rs")),
+        };
         writeln!(
             modules,
             "#[path = {path:?}]\n#[allow(unused, clippy::all)]\nmod m{number};"
         )
         .expect("text");
-        writeln!(table, "    wrong!({:?}, m{number}),", edit.label).expect("text");
+        writeln!(list, "    {made}!({:?}, m{number}),", edit.label).expect("text");
     }
-    let all = format!("{modules}\npub const MUTANTS: &[Mutant] = &[\n{table}];\n");
-    fs::write(out.join("mutants.rs"), all).expect("the list of them");
+    let lists = format!(
+        "pub const LOWERINGS: &[Mutant<Lower>] = &[\n{lowerings}];\n\
+         pub const RUNS: &[Mutant<Run>] = &[\n{runs}];\n"
+    );
+    fs::write(out.join("mutants.rs"), modules + &lists).expect("the lists of them");
 }

@@ -143,7 +143,7 @@ fn move_some(book: &mut [u8], rng: &mut Rng) -> Option<()> {
 }
 
 /// Damage to bytes, wherever they are.
-fn strike(book: &mut Vec<u8>, rng: &mut Rng) {
+pub(crate) fn strike(book: &mut Vec<u8>, rng: &mut Rng) {
     for _ in 0..rng.within(1, 3) {
         if book.is_empty() {
             return;

@@ -2,156 +2,36 @@
 //! `lowerbook` prints: against the model, and against the original where there
 //! is a checkout.
 
-use std::io::{Read, Write};
-use std::process::{Child, ChildStdin, ChildStdout, Command, Stdio};
-use std::sync::Mutex;
-use std::time::{Duration, Instant};
+use std::io::Write;
 
 use gen::Case;
 use model::book;
 use model::lower::{lower, trace};
-use original::Answer;
 
 use crate::nodes::ROOM;
-
-/// The bytes of a table with room for every node that can be numbered, and of
-/// one that is longer, which has no more room.
-const FULL: usize = 5 * ROOM;
-const LONGER: usize = FULL + 21;
+use crate::service::{least_room, Answer, Service, Start, FULL, LONGER};
 
 /// The bytes of `lowerbook`'s table.
 const LOWERBOOK: usize = 5 * 13_000;
 
-/// What LOWER answers, with every byte of its table.
-#[derive(PartialEq, Eq)]
-struct Lowered {
-    number: u32,
-    place: u32,
-    count: u32,
-    table: Vec<u8>,
-}
-
-impl Lowered {
-    fn tell(&self) -> String {
-        format!("{} at {}, {} nodes", self.number, self.place, self.count)
-    }
-}
-
-/// How programs for x86-64 are started here: under the kit's loader and, on
-/// another processor, its emulator.
-pub struct Start<'a> {
-    pub under: &'a [&'a str],
-}
-
-impl Start<'_> {
-    fn program(&self, path: &str) -> Result<Child, String> {
-        let words: Vec<&str> = self.under.iter().copied().chain([path]).collect();
-        Command::new(words[0])
-            .args(&words[1..])
-            .stdin(Stdio::piped())
-            .stdout(Stdio::piped())
-            .spawn()
-            .map_err(|error| format!("{}: {error}", words[0]))
-    }
-}
-
-/// The program of `compare/library`, which calls LOWER once for each request.
-pub struct Service {
-    requests: ChildStdin,
-    replies: ChildStdout,
-    calls: usize,
-    spent: Duration,
-}
-
-impl Service {
-    pub fn new(start: &Start, path: &str) -> Result<Service, String> {
-        let mut child = start.program(path)?;
-        Ok(Service {
-            requests: child.stdin.take().expect("it is piped"),
-            replies: child.stdout.take().expect("it is piped"),
-            calls: 0,
-            spent: Duration::ZERO,
-        })
-    }
-
-    /// How many calls there were, and how long one took.
-    pub fn calls(&self) -> (usize, Duration) {
-        (self.calls, self.spent / self.calls.max(1) as u32)
-    }
-
-    fn lower(&mut self, book: &[u8], symbols: bool, length: usize) -> Result<Lowered, String> {
-        let began = Instant::now();
-        let answer = self.ask(book, symbols, length).map_err(|error| {
-            format!("no answer in Rattle, at this book or one beside it: {error}")
-        })?;
-        self.spent += began.elapsed();
-        self.calls += 1;
-        Ok(answer)
-    }
-
-    fn ask(&mut self, book: &[u8], symbols: bool, length: usize) -> std::io::Result<Lowered> {
-        // Any number but 0 asks for symbols.
-        let asked = if symbols { 1 + (length % 255) as u8 } else { 0 };
-        let mut request = vec![asked];
-        request.extend((length as u32).to_le_bytes());
-        request.extend((book.len() as u32).to_le_bytes());
-        request.extend(book);
-        self.requests.write_all(&request)?;
-        let mut head = [[0; 4]; 4];
-        for word in &mut head {
-            self.replies.read_exact(word)?;
-        }
-        let [number, place, count, used] = head.map(u32::from_le_bytes);
-        // What the reply leaves out is zero.
-        let mut table = vec![0; length];
-        self.replies.read_exact(&mut table[..used as usize])?;
-        Ok(Lowered {
-            number,
-            place,
-            count,
-            table,
-        })
-    }
-}
-
 /// The model's answer in a table of `length` bytes.
-fn modelled(book: &[u8], symbols: bool, length: usize) -> Lowered {
+fn modelled(book: &[u8], symbols: bool, length: usize) -> Answer {
     let mut table = vec![0xa5; length];
-    let (number, place, count) = match lower(book, symbols, &mut table) {
-        Ok(count) => (0, 0, count as u32),
-        Err(refusal) => (u32::from(refusal.number), u32::from(refusal.place), 0),
-    };
-    Lowered {
-        number,
-        place,
-        count,
-        table,
-    }
+    let count = lower(book, symbols, &mut table);
+    Answer::new(count.map(|count| (count as u32, 0)), table)
 }
 
 /// The least room in which the model does not say that there is none, if there
 /// is one: where nodes are stored before a refusal, they need room too.
-fn least_room(bytes: &[u8], symbols: bool) -> Option<usize> {
+fn enough_room(bytes: &[u8], symbols: bool) -> Option<usize> {
     let book = book::read(bytes).ok()?;
-    let fits = |room| !matches!(trace(&book, symbols, room), Err(refusal) if refusal.number == 11);
-    let (mut least, mut most) = (0, ROOM);
-    if !fits(most) {
-        return None;
-    }
-    while least < most {
-        let middle = (least + most) / 2;
-        match fits(middle) {
-            true => most = middle,
-            false => least = middle + 1,
-        }
-    }
-    Some(least)
+    least_room(|room| !matches!(trace(&book, symbols, room), Err(refusal) if refusal.number == 11))
 }
 
 /// The lengths of tables that a book is tried in: full room, more than that,
 /// and where room matters all about the least that is enough.
 fn lengths(bytes: &[u8], symbols: bool) -> Vec<usize> {
-    let exact = match least_room(bytes, symbols) {
+    let exact = match enough_room(bytes, symbols) {
         Some(room) => 5 * room,
         None => return vec![FULL, LONGER, 38, 0],
     };
@@ -174,22 +54,15 @@ pub struct Seen {
 
 /// LOWER in Rattle on one book, without and with symbols and in each length of
 /// table, is the model's, and where the original is asked, the original's.
-pub fn agrees(service: &Mutex<Service>, case: &Case, ask: bool) -> Result<Seen, String> {
+pub fn agrees(service: &Service, case: &Case, ask: bool) -> Result<Seen, String> {
     let mut seen = Seen::default();
     for symbols in [false, true] {
         for length in lengths(&case.book, symbols) {
             let ours = modelled(&case.book, symbols, length);
-            let mut service = service.lock().expect("no judge panics with it");
             let theirs = service.lower(&case.book, symbols, length)?;
-            drop(service);
-            if theirs != ours {
-                return Err(format!(
-                    "symbols {symbols}, {length} bytes: {}, the model: {}{}",
-                    theirs.tell(),
-                    ours.tell(),
-                    first_apart(&theirs.table, &ours.table),
-                ));
-            }
+            theirs
+                .is_model(&ours)
+                .map_err(|why| format!("symbols {symbols}, {length} bytes: {why}"))?;
             seen.numbers.push(theirs.number);
             if ask && length == FULL && matches!(theirs.number, 0 | 10) {
                 is_original(case, symbols, &theirs)?;
@@ -200,23 +73,16 @@ pub fn agrees(service: &Mutex<Service>, case: &Case, ask: bool) -> Result<Seen, 
     Ok(seen)
 }
 
-fn first_apart(theirs: &[u8], ours: &[u8]) -> String {
-    match theirs.iter().zip(ours).position(|(a, b)| a != b) {
-        Some(at) => format!(", byte {at} is {}, not {}", theirs[at], ours[at]),
-        None => String::new(),
-    }
-}
-
 /// The original's nodes, or its undefined variable.
-fn is_original(case: &Case, symbols: bool, lowered: &Lowered) -> Result<(), String> {
+fn is_original(case: &Case, symbols: bool, lowered: &Answer) -> Result<(), String> {
     let same = match original::lower(&case.book, symbols, 40 * ROOM) {
-        Some(Answer::Nodes { nodes, .. }) => {
+        Some(original::Answer::Nodes { nodes, .. }) => {
             lowered.number == 0 && lowered.table[..5 * lowered.count as usize] == nodes
         }
-        Some(Answer::Undefined { record }) => {
+        Some(original::Answer::Undefined { record }) => {
             lowered.number == 10 && lowered.place == u32::from(record)
         }
-        Some(Answer::TooMany) | None => false,
+        Some(original::Answer::TooMany) | None => false,
     };
     match same {
         true => Ok(()),
@@ -252,8 +118,8 @@ pub fn prints(start: &Start, path: &str, case: &Case, ask: bool) -> Result<bool,
 
 fn original_text(case: &Case) -> Option<String> {
     match original::lower(&case.book, false, 40 * ROOM)? {
-        Answer::Nodes { nodes, .. } => Some(original::listing(&nodes)),
-        Answer::Undefined { record } => Some(format!("refused 10 at {record}\n")),
-        Answer::TooMany => None,
+        original::Answer::Nodes { nodes, .. } => Some(original::listing(&nodes)),
+        original::Answer::Undefined { record } => Some(format!("refused 10 at {record}\n")),
+        original::Answer::TooMany => None,
     }
 }

@@ -5,26 +5,29 @@
 //!     judge store             writes the original's answers to a sample
 //!     judge vectors COUNT     writes READ's vectors to standard output
 //!     judge library COUNT SERVICE LOWERBOOK [WORD]...
-//!                             LOWER in Rattle on COUNT books of each sort,
-//!                             through the program of `compare/library`, and
-//!                             `lowerbook` on some; what programs are started
-//!                             under comes last
+//!                             LOWER and RUN in Rattle on COUNT books or more
+//!                             of each sort, through the program of
+//!                             `compare/library`, and `lowerbook` on some; what
+//!                             programs are started under comes last
 
 mod answers;
 mod demand;
 mod library;
 mod nodes;
 mod robust;
+mod runs;
+mod service;
 mod vectors;
 mod work;
 
 use std::collections::HashMap;
 use std::io::Write;
 use std::process::ExitCode;
-use std::sync::Mutex;
 
 use gen::{damage, hostile, scoped, systematic, typed, Case};
 use model::book;
+use model::check::check;
+use service::{Service, Start};
 
 /// Where the stored answers and READ's vectors are, from this crate.
 const ANSWERS: &str = concat!(env!("CARGO_MANIFEST_DIR"), "/../answers");
@@ -33,8 +36,10 @@ const VECTORS: &str = concat!(
     "/../../crates/read_vectors/stdin"
 );
 
-/// A comparison of fewer books, or with fewer failures, shows too little.
+/// A comparison of fewer books or tables, or with fewer failures, shows too
+/// little.
 const BOOKS: usize = 2_000;
+const TABLES: usize = 5_000;
 const FAILURES: usize = 200;
 
 /// Of how many books of each sort `lowerbook`'s listing is compared: it is
@@ -45,16 +50,16 @@ fn say(line: &str) {
     println!("judge: {line}");
 }
 
-/// What `judge` says of each of `count` books, or of the first that it finds
-/// at fault, with the book's label.
-fn each<T: Send>(
+/// What `judge` says of each of `count` books or tables, or of the first that
+/// it finds at fault, with its label.
+fn each<C: AsRef<Case>, T: Send>(
     count: usize,
-    case: impl Fn(usize) -> Case + Sync,
-    judge: impl Fn(&Case) -> Result<T, String> + Sync,
+    case: impl Fn(usize) -> C + Sync,
+    judge: impl Fn(&C) -> Result<T, String> + Sync,
 ) -> Result<Vec<T>, String> {
     let answers = work::each(count, |number| {
         let case = case(number);
-        judge(&case).map_err(|why| format!("{}: {why}", case.label))
+        judge(&case).map_err(|why| format!("{}: {why}", case.as_ref().label))
     });
     answers.into_iter().collect()
 }
@@ -203,14 +208,14 @@ fn each_sort<T: Send>(
 }
 
 /// LOWER in Rattle against both judges.
-fn compare_library(some: usize, service: &str, start: &library::Start) -> Result<(), String> {
-    let service = Mutex::new(library::Service::new(start, service)?);
+fn compare_library(some: usize, service: &str, start: &Start) -> Result<(), String> {
+    let service = Service::new(start, service)?;
     let seen = each_sort(some, |case, ask| library::agrees(&service, case, ask))?;
     let met = |number: &u32| seen.iter().any(|seen| seen.numbers.contains(number));
     if let Some(number) = (0..=12).find(|number| !met(number)) {
         return Err(format!("LOWER in Rattle never answers {number}"));
     }
-    let (calls, spent) = service.into_inner().expect("no judge panicked").calls();
+    let (calls, spent) = service.calls();
     say(&format!(
         "LOWER in Rattle is the model's in {calls} calls on {} books, with every refusal from 1 to 12, and the original's on {} of these; a call takes {} microseconds",
         seen.len(),
@@ -220,8 +225,34 @@ fn compare_library(some: usize, service: &str, start: &library::Start) -> Result
     enough(seen.len(), BOOKS, "books compared")
 }
 
+/// RUN in Rattle against the model.
+fn compare_runs(some: usize, service: &str, start: &Start) -> Result<(), String> {
+    let service = Service::new(start, service)?;
+    let mut seen = Vec::new();
+    for family in runs::families(some) {
+        let judge = |table: &_| runs::agrees(&service, table, family.close);
+        seen.extend(each(family.count, &family.table, judge)?);
+    }
+    let long = seen.iter().filter(|ends| ends.is_empty()).count();
+    let met = seen.concat();
+    if let Some(end) = runs::ends().find(|end| !met.contains(end)) {
+        return Err(format!("RUN in Rattle never ends in {}", end.tell()));
+    }
+    let each_end: Vec<String> = runs::ends()
+        .map(|end| format!("{} {}", end.tell(), count(&met, end)))
+        .collect();
+    let (calls, spent) = service.calls();
+    say(&format!(
+        "RUN in Rattle is the model's in {calls} calls on {} tables, {long} too long ones left out; a call takes {} microseconds; how they ended: {}",
+        seen.len() - long,
+        spent.as_micros(),
+        each_end.join(", "),
+    ));
+    enough(seen.len() - long, TABLES, "tables compared")
+}
+
 /// What `lowerbook` prints, against both judges.
-fn compare_listings(some: usize, lowerbook: &str, start: &library::Start) -> Result<(), String> {
+fn compare_listings(some: usize, lowerbook: &str, start: &Start) -> Result<(), String> {
     let refused = each_sort(some, |case, ask| {
         library::prints(start, lowerbook, case, ask)
     })?;
@@ -244,11 +275,11 @@ fn replay() -> Result<(), String> {
     Ok(())
 }
 
-/// Books from files.
+/// Books from files, each of which CHECK passes.
 fn given(paths: &[&str]) -> Result<Vec<Case>, String> {
     let one = |path: &&str| {
         let book = std::fs::read(path).map_err(|error| format!("{path}: {error}"))?;
-        book::read(&book).map_err(|refusal| format!("{path}: {refusal:?}"))?;
+        check(&book).map_err(|refusal| format!("{path}: {refusal:?}"))?;
         Ok(Case {
             label: path.to_string(),
             book,
@@ -302,9 +333,10 @@ fn main() -> ExitCode {
         ["store"] => store(),
         ["vectors", some] => number(some).and_then(write_vectors),
         ["library", some, service, lowerbook, ref under @ ..] => {
-            let start = library::Start { under };
+            let start = Start { under };
             number(some).and_then(|some| {
                 compare_library(some, service, &start)?;
+                compare_runs(some, service, &start)?;
                 compare_listings(LISTINGS, lowerbook, &start)
             })
         }

@@ -1,10 +1,2 @@
-pub mod Entries
-pub mod Cells
-pub mod Keeping
-pub mod Given
-pub mod Nodes
-pub mod Run
 pub mod Whole
-pub mod Unfold
-pub mod Agreement
-pub mod Machine
+pub mod Calls

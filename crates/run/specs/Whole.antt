@@ -13,16 +13,12 @@ use Rattle.book.specs.Faults.{refusal}
 use Rattle.book.specs.declared.fault.Fault.the-variants.{Nodes}
 use Rattle.book.specs.declared.fault.Refusal.{Refusal}
 use Rattle.book.specs.declared.fault.ReadAnswer.the-variants as reads
-use Rattle.run.specs.Given.{Text, text, Given, given, cellOf}
-use Rattle.run.specs.Nodes.{Judged, wellFormed, badAt, judge}
-use Rattle.run.specs.Cells.{unitCell, leftCell, rightCell, pairCell, World, world, fails, refuses, Out, got, halt, bind, store}
-use Rattle.run.specs.Run.{run}
+use Rattle.nodes.specs.Given.{Text, text, Given, given, cellOf}
+use Rattle.nodes.specs.Nodes.{Judged, wellFormed, badAt, judge}
+use Rattle.cells.specs.Cells.{unitCell, leftCell, rightCell, pairCell, World, world, fails, refuses, Out, got, halt, bind, store}
+use Rattle.machine.specs.Run.{DEEP, run}
 use Rattle.run.specs.declared.RunAnswer.{RunAnswer}
 use Rattle.run.specs.declared.RunAnswer.the-variants as answers
-
--- document 01, Refusal 16: how deep a node may be entered
-abbrev pub DEEP : ℕ
-DEEP = 4096
 
 -- the cell of field k of record r, which names a value
 abbrev pub partOf : Text → ℕ → ℕ → ℕ

@@ -6,24 +6,25 @@ ghost use mathlib.Core.Bool.{true};
 ghost use Rattle.book.specs.Format.{VALUE};
 ghost use Rattle.book.specs.Index.{Lies, field};
 ghost use Rattle.book.specs.Valid.{Valid};
-ghost use Rattle.run.specs.Given.{text, holds};
+ghost use Rattle.nodes.specs.Given.{text, holds};
 ghost use Rattle.run.specs.Whole.{seed, seedOne};
-ghost use Rattle.run.specs.Machine.{Placed, Sound, Seeded, Started};
-use crate::given::entry;
-use crate::given::is_of;
-use crate::table::Kept;
-use crate::table::LEFT;
-use crate::table::PAIR;
-use crate::table::RIGHT;
-use crate::table::UNIT;
-use crate::table::from;
-use crate::table::keep;
+ghost use Rattle.machine.specs.Machine.{Placed, Sound};
+ghost use Rattle.run.specs.Calls.{Seeded, Started};
 use book::format::VALUE;
 use book::format::VL;
 use book::format::VR;
 use book::format::VU;
 use book::record::field_at;
 use book::record::mark_at;
+use cells::table::Kept;
+use cells::table::LEFT;
+use cells::table::PAIR;
+use cells::table::RIGHT;
+use cells::table::UNIT;
+use cells::table::from;
+use cells::table::keep;
+use nodes::given::entry;
+use nodes::given::is_of;
 
 // The cell of each value record into a row of zeros: they are numbered from 1.
 pub fn number_values(book: &[u8], index: &[u16], records: u16, row: &mut [u16])

@@ -4,30 +4,25 @@ ghost use Prim.Native.Nat.{ℕ, _≤_, _<_};
 ghost use lib.ListN.{length, replicate};
 ghost use Rattle.book.specs.Valid.{Valid};
 ghost use mathlib.Core.List.{List, []};
-ghost use Rattle.run.specs.Cells.{world, refuses};
-ghost use Rattle.run.specs.Given.{text, given};
-ghost use Rattle.run.specs.Run.{run};
-ghost use Rattle.run.specs.Whole.{DEEP, ended, resultOf, afterRead, runOf, tableOf};
-ghost use Rattle.run.specs.Machine.{Answered, Sound, Stopped, endOf, overAt};
+ghost use Rattle.cells.specs.Cells.{world, refuses};
+ghost use Rattle.nodes.specs.Given.{text, given};
+ghost use Rattle.machine.specs.Run.{DEEP, run};
+ghost use Rattle.run.specs.Whole.{ended, resultOf, afterRead, runOf, tableOf};
+ghost use Rattle.run.specs.Calls.{Answered};
+ghost use Rattle.machine.specs.Machine.{Sound, Stopped, endOf, overAt};
 use crate::initial::number_values;
 use crate::initial::seed_cells;
-use crate::machine::State;
-use crate::machine::drive;
-use crate::nodes::Verdict;
-use crate::nodes::judge_table;
 use book::fault::Fault;
 use book::fault::ReadAnswer;
 use book::fault::Refusal;
 use book::read::index_book;
+use machine::State;
+use machine::drive;
 use named::table::clear;
+use nodes::check::Verdict;
+use nodes::check::judge_table;
 
-mod given;
 mod initial;
-mod jets;
-mod machine;
-mod nodes;
-pub mod table;
-
 // RUN's answer: a value's cell and how many cells are used, a failure, or a refusal.
 pub enum RunAnswer {
     Value { cell: u16, count: u16 },
@@ -151,7 +146,7 @@ fn run_machine(
 }
 
 // A refusal that ended a run, by its number.
-fn fault_of(mode: u8) -> Fault
+fn fault_of(mode: u16) -> Fault
     requires { ⌜ (2 < mode) × (mode ≡ 3 → ⊥) ⌝ }
     ensures { λ f. ⌜ refuses f ≡ endOf mode ⌝ }
 {

@@ -4,18 +4,18 @@ ghost use mathlib.Core.Path.{_≡_};
 ghost use Prim.Native.Nat.{_+_, _≤_, _<_};
 ghost use lib.ListN.{length};
 use book::word::word;
+use cells::table::LEFT;
+use cells::table::RIGHT;
+use cells::table::UNIT;
+use cells::table::kind_at;
+use cells::table::left_at;
+use cells::table::right_at;
 use compile::LowerAnswer;
 use compile::lower;
 use libc::STDIN_FILENO;
 use libc::STDOUT_FILENO;
 use run::RunAnswer;
 use run::run;
-use run::table::LEFT;
-use run::table::RIGHT;
-use run::table::UNIT;
-use run::table::kind_at;
-use run::table::left_at;
-use run::table::right_at;
 
 // An entry for each of the 65,536 names that a witness may have: what follows is never read.
 const LIST: usize = 131072;

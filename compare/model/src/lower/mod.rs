@@ -1,7 +1,7 @@
 //! LOWER: from a book to a table of nodes.
 
 mod array;
-mod node;
+pub mod node;
 mod recipes;
 mod scope;
 

@@ -1,0 +1,2 @@
+pub mod Unfold
+pub mod Agreement

@@ -1,0 +1,1 @@
+// RUN agrees with the published meaning of Simplicity's terms. No function.

@@ -1,0 +1,16 @@
+-- `right_at` meets its contract: two of an entry's bytes, low byte first.
+-- Assumes nothing.
+use mathlib.Core.Path.{_∙_}
+use Rattle.cells.proofs.Numbers.{right-word}
+use borrow.Author.Needs.{needs}
+use Rattle.cells.proofs.table.right_at.Statement.{statement}
+use Rattle.cells.proofs.table.right_at.Tie as tie
+
+pub right-at-spec : {M : Type 1} → statement M
+right-at-spec =
+    tie.close
+    (tie.spec
+    (λ c. search needs)
+    (λ c. search needs)
+    (λ c κs. search needs)
+    (λ c. c .pair-at .ensures ∙ right-word _ _))

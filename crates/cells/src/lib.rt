@@ -1,0 +1,3 @@
+// A run's values in a lent table of cells, and the jets over them.
+pub mod jets;
+pub mod table;

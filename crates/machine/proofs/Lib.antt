@@ -1,0 +1,4 @@
+pub mod Frames
+pub mod Turns
+pub mod Ways
+pub mod Backs

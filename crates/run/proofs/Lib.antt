@@ -1,0 +1,2 @@
+pub mod Seeds
+pub mod Ends
