@@ -6,20 +6,33 @@ import subprocess
 import unittest
 
 from vectors import LISTING, ROOT, book, packed, stored
+from booklib import encode_labelled, witness_list
 
 MOST = 65536  # characters of a value's text
 
-# A byte is a balanced tree of bits; these types are the records 0 to 5.
-TYPES = "tu; ts 0 0; tp 1 1; tp 2 2; tp 3 3; tp 1 4;"
-
-# Values 6 to 8 are (), false and true.
-BITS = TYPES + "vu 0; vl 1 6; vr 1 6;"
+# Types 0 to 2 are unit, bit and two bits; values 3 to 5 are (), false and true.
+BITS = "tu; ts 0 0; tp 1 1; vu 0; vl 1 3; vr 1 3;"
 
 
 def given(text, witnesses=()):
     """The program's input: length, book, witness list."""
     data = book(text)
     return packed((len(data), 2)) + data + packed(*((entry, 2) for entry in witnesses))
+
+
+def example(name, *words):
+    """The same from a text of examples/, with witnesses by their labels."""
+    text = stored(os.path.join(ROOT, "examples", name + ".txt")).decode()
+    data, labels = encode_labelled(text, name)
+    return packed((len(data), 2)) + data + witness_list(words, labels)
+
+
+def word(bits):
+    """A word's text, from its bits."""
+    if len(bits) == 1:
+        return "L ()" if bits == "0" else "R ()"
+    half = len(bits) // 2
+    return f"({word(bits[:half])}, {word(bits[half:])})"
 
 
 def printed(data):
@@ -52,20 +65,27 @@ class Values(unittest.TestCase):
     def test_the_listing(self):
         self.assertEqual(printed(given(LISTING)), "value\nR ()\n")
 
-    def test_the_gate_s_own_input(self):
+    def test_an_example_vault(self):
+        paid = f"value\n({word('00000000')}, {word('00001000')})\n"
+        shut = f"value\n({word('00000001')}, {word('11111111')})\n"
+        cases = {"@small": paid, "@large": "failed\n", "@ours": shut, "@theirs": "failed\n"}
+        for choice, said in cases.items():
+            self.assertEqual(printed(example("vault_two", choice)), said, choice)
+        self.assertEqual(printed(example("vault_two")), "refused 17 at 51\n")
+        # rt runs the program on the first of them.
         folder = os.path.join(ROOT, "crates", "runbook")
-        said = stored(os.path.join(folder, "stdout")).decode()
-        self.assertEqual(printed(stored(os.path.join(folder, "stdin"))), said)
+        self.assertEqual(stored(os.path.join(folder, "stdin")), example("vault_two", "@small"))
+        self.assertEqual(stored(os.path.join(folder, "stdout")).decode(), paid)
 
     def test_sides_and_pairs(self):
         cases = {
-            "ec 0 6": "()",
-            "ec 1 7": "L ()",
-            "vp 2 7 8; ec 2 9": "(L (), R ())",
-            "vp 2 7 8; vp 3 9 9; ec 3 10": "((L (), R ()), (L (), R ()))",
-            "vl 0 7; vr 0 9; vp 0 10 6; ec 0 11": "(R L L (), ())",
-            "et 0 0; e1 0 9; e0 0 10": "L R ()",
-            "ec 0 7; ec 0 6; ec 0 8; et 0 3 9 10 11": "(L (), ((), R ()))",
+            "ec 0 3": "()",
+            "ec 1 4": "L ()",
+            "vp 2 4 5; ec 2 6": "(L (), R ())",
+            "vp 2 4 5; vp 0 6 6; ec 0 7": "((L (), R ()), (L (), R ()))",
+            "vl 0 4; vr 0 6; vp 0 7 3; ec 0 8": "(R L L (), ())",
+            "et 0 0; e1 0 6; e0 0 7": "L R ()",
+            "ec 0 4; ec 0 3; ec 0 5; et 0 3 6 7 8": "(L (), ((), R ()))",
         }
         for text, said in cases.items():
             self.assertEqual(printed(given(BITS + text)), f"value\n{said}\n", text)
@@ -86,8 +106,8 @@ class Values(unittest.TestCase):
         self.assertTrue(said.startswith("value\n" + 250 * "(" + "()"))
 
     def test_a_value_that_nests_deeply(self):
-        # Record 9 pairs its accumulator with (), 13 does so 16 times, and the
-        # last does that 256 times: 4,096 pairs, one in the other.
+        # Function 4 pairs its accumulator with (), function 24 does so 16 times,
+        # and the last record has it do so 256 times: 4,096 pairs in each other.
         row = "; ".join(["et 0 0"] * 16)
         inner = " ".join(str(k) for k in range(5, 21))
         step = "tu; ev 0 2; et 0 0; et 0 2 1 2; fn 0 2 1 0 2 0 3"
@@ -102,27 +122,29 @@ class Ends(unittest.TestCase):
     def test_failures_and_refusals(self):
         cases = {
             "cp 0 0": "failed",
-            "ec 1 7; ca 0 0 9": "failed",
-            "ec 1 8; ca 0 0 9": "value\n()",
-            "ev 0 9": "refused 10 at 9",
-            "tu": "refused 7 at 9",
+            "ec 1 4; ca 0 0 6": "failed",
+            "ec 1 5; ca 0 0 6": "value\n()",
+            "ev 0 9": "refused 10 at 6",
+            "tu": "refused 7 at 6",
             "ew 1 3": "refused 17 at 0",
-            "ec 0 6; ck 1 9; ca 0 0 10": "refused 19 at 1",
+            "ec 0 3; ck 1 6; ca 0 0 7": "refused 19 at 1",
         }
         for text, said in cases.items():
             self.assertEqual(printed(given(BITS + text)), said + "\n", text)
 
     def test_the_witness_list(self):
         text = BITS + "ew 1 1"
-        cases = {(): 17, (8,): 17, (0, 8): "R ()", (9, 7): "L ()", (8, 6): 17, (8, 7, 9): "L ()"}
+        no, yes = "refused 17 at 0\n", "value\nR ()\n"
+        cases = {(): no, (5,): no, (0, 5): yes, (5, 3): no, (9, 5, 9): yes}
         for entries, said in cases.items():
-            due = "refused 17 at 0" if said == 17 else f"value\n{said}"
-            self.assertEqual(printed(given(text, entries)), due + "\n", entries)
-        self.assertEqual(printed(given(text, (9, 8))[:-1]), "refused 17 at 0\n")
-        self.assertEqual(printed(given(text, (9, 8)) + b"\7"), "value\nR ()\n")
-        last = given(BITS + "ew 1 65535", [0] * 65535 + [8])
-        for data in (last, last + bytes(9)):
-            self.assertEqual(printed(data), "value\nR ()\n")
+            self.assertEqual(printed(given(text, entries)), said, entries)
+        whole = given(text, (9, 5))
+        self.assertEqual(printed(whole[:-1]), no)
+        self.assertEqual(printed(whole + b"\7"), yes)
+        # The last name that a witness may have; what follows is not looked at.
+        last = given(BITS + "ew 1 65535", [0] * 65535 + [5])
+        for data, said in ((last, yes), (last + bytes(9), yes), (last[:-2], no)):
+            self.assertEqual(printed(data), said)
 
 
 class ShortInputs(unittest.TestCase):
