@@ -18,7 +18,7 @@ import random
 import sys
 
 from vectors import ENTRY, KINDS, WIDTH, packed, settle
-from run_cases import ROOM, VALUES, Due, hand_vectors, jet_cells, on_words, value, vector
+from run_cases import FILLED, ROOM, VALUES, Due, hand_vectors, jet_cells, on_words, value, vector
 from run_model import LEFT, RIGHT, STUCK, run
 
 LEAST_HAND_VECTORS = 600
@@ -166,10 +166,11 @@ def grown(entry, growth):
 def shortest(table):
     """As few bytes as a table can be grown from, and how it grows.
 
-    Odd bytes at its end are not grown, and are zero there.
+    Odd bytes at its end are not grown; what is not given of them is as the
+    program fills a table.
     """
     whole = len(table) - len(table) % WIDTH
-    if any(table[whole:]):
+    if table[whole:] != FILLED[: len(table) - whole]:
         return table, 0
     entries = list(ENTRY.iter_unpack(table[:whole]))
     kept = []

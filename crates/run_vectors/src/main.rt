@@ -1,7 +1,8 @@
 // Runs RUN on a stream of vectors, and prints how many there were and which answers were wrong.
 // A vector: fourteen numbers of four bytes, in the order of the constants below; the book, the witnesses, the given nodes, the given
 // cells, and the places of a jet's bits, if it has any. A table grows from what is given of it: each further entry is the one before,
-// its first number more by one if its growth is odd, its second if it is 2 or 3. Numbers are low byte first.
+// its first number more by one if its growth is odd, its second if it is 2 or 3; odd bytes at its end are 165. Numbers are low byte
+// first.
 ghost use Prim.Native.Nat.{_+_, _*_, _≤_, _<_};
 ghost use lib.ListN.{length};
 use book::fault::fault_number;
@@ -156,6 +157,7 @@ fn grow(table: &mut [u8], from: usize, growth: u32)
 
 // Reads what is given of a table, and grows it.
 fn read_table(table: &mut [u8], given: usize, growth: u32) {
+    fill(table);
     if table.len() < given {
         return;
     }

@@ -10,6 +10,8 @@ pub read-table-spec : {M : Type 1} → statement M
 read-table-spec =
     tie.close
     (tie.spec
+    (λ c κs. search needs)
+    (λ c. search needs)
     (λ c. search needs)
     (λ c. search needs)
     (λ c. sym (length-take-le _ _ (search needs)))
