@@ -9,7 +9,7 @@ use native.Mathlib.Omega.{arith}
 use lib.Count.{leadingZeros}
 use lib.Dec.{T, eqb, ltb, leb, eqb→eq, ltb→lt, leb→le}
 use lib.ListN.{getD}
-use lib.Pow.{pow-add, pow-pos}
+use lib.Pow.{pow-add}
 use Rattle.laws.specs.Table.{below, all-below}
 use Rattle.simplicity.specs.Values.{bit, word, Shape, isNothing, isUnit, isLeft, isRight, isPair, ifUnit}
 use Rattle.simplicity.specs.Outcomes.{Outcome, stuck}
@@ -137,21 +137,22 @@ pub word-bit : {t : List ℕ} {x j : ℕ} {r : Word} → j ≡ 0 → Worded t 0 
 word-bit e d = rw e d
 
 -- a word has some number
-pub span-some : {s : ℕ} (k : ℕ) → s ≡ 2 ^ (2 ^ k) → 0 < s
-span-some k e = rw e (pow-pos (2 ^ k))
-
 -- the cells of a word: a bit's, or those of its halves and then the pair's
 module _ {t t₁ : List ℕ} {p q : Kept} (v : ℕ) where
   pub keep-bits : (k : ℕ) → k ≡ 0 → Keeps t p (λ n. storeValue n (bit (eqb (v % 2) 1))) q t₁ → Keeps t p (λ n. storeValue n (word k v)) q t₁
   unfolding word
   keep-bits k e d = rw e d
 
-  pub keep-halves : {t₂ t₃ : List ℕ} {r s : Kept} {h : ℕ} (k : ℕ) → (k ≡ 0 → ⊥) → h ≡ 2 ^ (2 ^ (k - 1)) → Keeps t p (λ n. storeValue n (word (k - 1) (v / h))) q t₁ → Keeps t₁ q (λ n. storeValue n (word (k - 1) (v % h))) r t₂ → Keeps t₂ r (λ n. store n pairCell (q .cell) (r .cell)) s t₃ → Keeps t p (λ n. storeValue n (word k v)) s t₃
+  pub keep-halves : {t₂ t₃ : List ℕ} {r s : Kept} {a b : ℕ} (k : ℕ) → (k ≡ 0 → ⊥) → a ≡ v / 2 ^ (2 ^ (k - 1)) → b ≡ v % 2 ^ (2 ^ (k - 1)) → Keeps t p (λ n. storeValue n (word (k - 1) a)) q t₁ → Keeps t₁ q (λ n. storeValue n (word (k - 1) b)) r t₂ → Keeps t₂ r (λ n. store n pairCell (q .cell) (r .cell)) s t₃ → Keeps t p (λ n. storeValue n (word k v)) s t₃
   unfolding word
-  keep-halves zero o e d f g = absurd (o refl)
-  keep-halves {h = h} (suc k) o e d f g =
+  keep-halves zero o h l d f g = absurd (o refl)
+  keep-halves (suc k) o h l d f g =
       let z : suc k - 1 ≡ k = omega arith in
-      keep-pair (word k (v / 2 ^ (2 ^ k))) (word k (v % 2 ^ (2 ^ k))) (rw (e, z) at d) (rw (e, z) at f) g
+      keep-pair (word k (v / 2 ^ (2 ^ k))) (word k (v % 2 ^ (2 ^ k))) (rw (h, z) at d) (rw (l, z) at f) g
+
+-- the widths of halves are three
+pub third-width : (k : ℕ) → k < 3 → (k ≡ 0 → ⊥) → (k ≡ 1 → ⊥) → k ≡ 2
+third-width k l a b = omega arith
 
 -- the two words in the pair at cell x, whose kind is k
 module _ {t : List ℕ} {x k : ℕ} (j : ℕ) (kind : k ≡ kindAt t x) where

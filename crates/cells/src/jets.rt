@@ -1,6 +1,6 @@
 // Jets over cells: words are read from cells, and stored as cells.
 ghost use mathlib.Core.Path.{_≡_};
-ghost use Prim.Native.Nat.{_+_, _^_, _≤_, _<_};
+ghost use Prim.Native.Nat.{_+_, _/_, _%_, _^_, _≤_, _<_};
 ghost use Rattle.simplicity.specs.Jets.{jetOn, verify, eq8, add8, onWord, onWords};
 ghost use Rattle.simplicity.specs.Values.{pair, bit, word};
 ghost use Rattle.cells.specs.Cells.{shapeAt, storeValue};
@@ -130,6 +130,29 @@ fn keep_bit(cells: &mut [u8], p: Kept, set: bool) -> Kept
     keep(cells, unit, LEFT, unit.cell, 0)
 }
 
+// The halves of a number, of 2 ^ k bits each. Each width is written out, so that no step divides by a variable.
+fn high_half(v: u8, k: usize) -> u8
+    requires { ⌜ k < 3 ⌝ }
+    ensures { λ r. ⌜ r ≡ v / 2 ^ (2 ^ k) ⌝ }
+{
+    match k {
+        0 => v / 2,
+        1 => v / 4,
+        _ => v / 16,
+    }
+}
+
+fn low_half(v: u8, k: usize) -> u8
+    requires { ⌜ k < 3 ⌝ }
+    ensures { λ r. ⌜ r ≡ v % 2 ^ (2 ^ k) ⌝ }
+{
+    match k {
+        0 => v % 2,
+        1 => v % 4,
+        _ => v % 16,
+    }
+}
+
 // Stores the cells of the number v as a word of 2 ^ k bits.
 fn keep_word(cells: &mut [u8], p: Kept, k: usize, v: u8) -> Kept
     requires { ⌜ k ≤ 3 ⌝ }
@@ -138,9 +161,8 @@ fn keep_word(cells: &mut [u8], p: Kept, k: usize, v: u8) -> Kept
     if k == 0 {
         return keep_bit(cells, p, v % 2 == 1);
     }
-    let half = span(k - 1);
-    let high = keep_word(cells, p, k - 1, v / half);
-    let low = keep_word(cells, high, k - 1, v % half);
+    let high = keep_word(cells, p, k - 1, high_half(v, k - 1));
+    let low = keep_word(cells, high, k - 1, low_half(v, k - 1));
     keep(cells, low, PAIR, high.cell, low.cell)
 }
 

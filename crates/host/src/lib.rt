@@ -3,7 +3,7 @@ ghost use mathlib.Core.Path.{_≡_};
 ghost use lib.ListN.{length};
 ghost use Rattle.compile.specs.Whole.{lowerOf, tableOf};
 ghost use Rattle.run.specs.Whole.{runOf, tableOf as cellsOf};
-ghost use Rattle.host.specs.Outcome.{asked, outcomeOf, ranOf};
+ghost use Rattle.host.specs.Outcome.{asked, outcomeOf, ran, ranOf};
 use book::fault::fault_number;
 use compile::LowerAnswer;
 use compile::lower;
@@ -72,6 +72,18 @@ pub extern "C" fn simplicityhl_run(
     ran_of(run(book, witnesses, nodes, count, cells))
 }
 
+// A run without a value has no cells.
+fn no_value(number: u32, place: u32) -> RunOutcome
+    ensures { λ r. ⌜ r ≡ ran number place 0 0 ⌝ }
+{
+    RunOutcome {
+        number: number,
+        place: place,
+        count: 0,
+        cell: 0,
+    }
+}
+
 fn ran_of(answer: RunAnswer) -> RunOutcome
     ensures { λ r. ⌜ r ≡ ranOf answer ⌝ }
 {
@@ -82,20 +94,10 @@ fn ran_of(answer: RunAnswer) -> RunOutcome
             count: n as u32,
             cell: v as u32,
         },
-        RunAnswer::Failed => RunOutcome {
-            number: 0,
-            place: 0,
-            count: 0,
-            cell: 0,
-        },
+        RunAnswer::Failed => no_value(0, 0),
         RunAnswer::Refused(why) => {
             let fault = why.fault;
-            RunOutcome {
-                number: fault_number(fault) as u32,
-                place: why.place as u32,
-                count: 0,
-                cell: 0,
-            }
+            no_value(fault_number(fault) as u32, why.place as u32)
         }
     }
 }

@@ -125,7 +125,7 @@ module _ (g : Given) (n x : ℕ) (w : World) (kids : Runs) where
 
 -- the keys of the machine's match over kinds, and what its ranges are
 abbrev pub SINGLE : List ℕ
-SINGLE = 1 ∷ 2 ∷ 3 ∷ 4 ∷ 7 ∷ 8 ∷ 9 ∷ 12 ∷ 13 ∷ 14 ∷ 15 ∷ []
+SINGLE = 1 ∷ 2 ∷ 3 ∷ 4 ∷ 7 ∷ 9 ∷ 8 ∷ 12 ∷ 13 ∷ 14 ∷ 15 ∷ []
 
 pub range-part : (k : ℕ) {K : Type 0} → Rest SINGLE k K → 1 ≤ k → k < 7 → (5 ≤ k) × (k ≤ 6)
 range-part k r a b = (omega (arith, r .0 .0 .0 .0 .0 .0 .0 .1, r .0 .0 .0 .0 .0 .0 .0 .0 .1, r .0 .0 .0 .0 .0 .0 .0 .0 .0 .1, r .0 .0 .0 .0 .0 .0 .0 .0 .0 .0 .1), omega arith)

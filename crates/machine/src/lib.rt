@@ -292,9 +292,8 @@ fn enter(
         4 => down(codes, places, held, s, RIGHTED, 0, left_at(nodes, n), x),
         5..=6 => enter_part(nodes, cells, codes, places, held, s, kind),
         7 => down(codes, places, held, s, SECOND, 0, left_at(nodes, n), x),
-        8 => enter_case(nodes, cells, codes, places, held, s, kind),
         9 => down(codes, places, held, s, BESIDE, x, left_at(nodes, n), x),
-        10..=11 => enter_case(nodes, cells, codes, places, held, s, kind),
+        8..=11 => enter_case(nodes, cells, codes, places, held, s, kind),
         12 => end_with(s, FAILED),
         13 => enter_witness(book, index, records, witnesses, row, nodes, s),
         14 => back_with(s, entry(row, left_at(nodes, n))),
@@ -304,7 +303,7 @@ fn enter(
 }
 
 // Hands the state's cell back to the newest frame.
-fn back(
+fn back_to(
     nodes: &[u8],
     cells: &mut [u8],
     codes: &mut [u8],
@@ -312,18 +311,9 @@ fn back(
     held: &mut [u16],
     s: State,
 ) -> State
-    requires { ⌜ Deep (stack (now codes) (now places) (now held)) ⌝ ∗ ⌜ (s .mode ≡ 1) × (s .depth ≤ DEEP) ⌝ }
+    requires { ⌜ Deep (stack (now codes) (now places) (now held)) ⌝ ∗ ⌜ (s .mode ≡ 1) × ((s .depth ≡ 0 → ⊥) × (s .depth ≤ DEEP)) ⌝ }
     ensures { λ r. ⌜ ((b : Text) (ws : List ℕ) → Turned (given b ws (now (nodes .entry))) (now (cells .entry)) (stack (now (codes .entry)) (now (places .entry)) (now (held .entry))) s (now (cells .exit)) (stack (now (codes .exit)) (now (places .exit)) (now (held .exit))) r) ⌝ }
 {
-    if s.depth == 0 {
-        return State {
-            mode: DONE,
-            node: s.node,
-            value: s.value,
-            depth: 0,
-            used: s.used,
-        };
-    }
     let d = s.depth - 1;
     let v = s.value;
     let h = held[d];
@@ -351,6 +341,30 @@ fn back(
         RIGHTED => back_kept(t, keep(cells, from(t.used), RIGHT, v, 0)),
         _ => back_kept(t, keep(cells, from(t.used), PAIR, h, v)),
     }
+}
+
+// Hands the state's cell back: where no frame is left the run is done.
+fn back(
+    nodes: &[u8],
+    cells: &mut [u8],
+    codes: &mut [u8],
+    places: &mut [u16],
+    held: &mut [u16],
+    s: State,
+) -> State
+    requires { ⌜ Deep (stack (now codes) (now places) (now held)) ⌝ ∗ ⌜ (s .mode ≡ 1) × (s .depth ≤ DEEP) ⌝ }
+    ensures { λ r. ⌜ ((b : Text) (ws : List ℕ) → Turned (given b ws (now (nodes .entry))) (now (cells .entry)) (stack (now (codes .entry)) (now (places .entry)) (now (held .entry))) s (now (cells .exit)) (stack (now (codes .exit)) (now (places .exit)) (now (held .exit))) r) ⌝ }
+{
+    if s.depth == 0 {
+        return State {
+            mode: DONE,
+            node: s.node,
+            value: s.value,
+            depth: 0,
+            used: s.used,
+        };
+    }
+    back_to(nodes, cells, codes, places, held, s)
 }
 
 // Enters a node, or hands a cell back.

@@ -1,6 +1,6 @@
 -- `keep_word` meets its contract: a bit, or two words of half the bits and then their pair.
 -- Assumes nothing.
-use Rattle.cells.proofs.Words.{span-some, keep-bits, keep-halves}
+use Rattle.cells.proofs.Words.{keep-bits, keep-halves}
 use borrow.Author.Needs.{needs}
 use Prim.Native.Nat.{ℕ, _<_}
 use borrow.Fn.Kinds.{In}
@@ -9,7 +9,8 @@ use Rattle.cells.proofs.jets.keep_word.Reads as keep-word
 use Rattle.cells.proofs.jets.keep_word.Kinds as keep-word-kinds
 use Rattle.cells.proofs.jets.+keep_word.Lts-keep_word as keep-word-lts
 use Rattle.cells.proofs.jets.keep_bit.Reads as keep-bit-reads
-use Rattle.cells.proofs.jets.span.Reads as span-reads
+use Rattle.cells.proofs.jets.high_half.Reads as high-half-reads
+use Rattle.cells.proofs.jets.low_half.Reads as low-half-reads
 use Rattle.cells.proofs.table.keep.Reads as keep-reads
 use Rattle.cells.proofs.jets.+keep_word.{statement}
 use Rattle.cells.proofs.jets.+keep_word.Tie.{close}
@@ -24,7 +25,7 @@ abbrev keep-word-below : ℕ → In 1 keep-word-kinds.ps
 keep-word-below t = and 1 keep-word-kinds.ps (falls 1 keep-word-kinds.ps _<_ μ-keep-word t) keep-word.Pre
 
 abbrev keep-word-claims : ℕ → keep-word-lts.Claims
-keep-word-claims t = (keep-bit-reads.Asked, keep-bit-reads.Learnt, span-reads.Asked, span-reads.Learnt, keep-word-below t, keep-word.Post, keep-reads.Asked, keep-reads.Learnt)
+keep-word-claims t = (keep-bit-reads.Asked, keep-bit-reads.Learnt, high-half-reads.Asked, high-half-reads.Learnt, keep-word-below t, keep-word.Post, low-half-reads.Asked, low-half-reads.Learnt, keep-reads.Asked, keep-reads.Learnt)
 
 pub +keep-word-spec : {M : Type 1} → statement M
 +keep-word-spec = close μ-keep-word
@@ -33,13 +34,13 @@ pub +keep-word-spec : {M : Type 1} → statement M
     (λ c. search needs)
     (λ c. keep-bits _ _ (c .before .before .before .before .if1 .taken) (c .before .before .keep-bit .ensures))
     (λ c. search needs)
-    (λ c κs. search needs)
     (λ c. search needs)
-    (λ c. span-some _ (c .before .span .ensures))
-    (λ c κs. search needs)
-    (λ c. search needs)
-    (λ c. span-some _ (c .before .before .before .before .before .span .ensures))
     (λ c κs. search needs)
     (λ c κs. search needs)
     (λ c. search needs)
-    (λ c. keep-halves _ _ (c .before .before .before .before .before .before .before .before .before .before .before .before .before .if1 .left) (c .before .before .before .before .before .before .before .before .before .before .before .before .span .ensures) (c .before .before .before .before .before .before .before .before .before .before .keep-word .ensures) (c .before .before .before .before .before .before .keep-word2 .ensures) (c .before .before .keep .ensures)))
+    (λ c. search needs)
+    (λ c κs. search needs)
+    (λ c κs. search needs)
+    (λ c κs. search needs)
+    (λ c. search needs)
+    (λ c. keep-halves _ _ (c .before .before .before .before .before .before .before .before .before .before .before .before .before .before .if1 .left) (c .before .before .before .before .before .before .before .before .before .before .before .before .high-half .ensures) (c .before .before .before .before .before .before .before .low-half .ensures) (c .before .before .before .before .before .before .before .before .before .before .before .keep-word .ensures) (c .before .before .before .before .before .before .keep-word2 .ensures) (c .before .before .keep .ensures)))
