@@ -17,30 +17,18 @@ The file crates/lower_vectors/stdin holds for each vector: symbols (1 byte), num
 of the table (3), of the book (3) and of the nodes (3), the book, the nodes; low byte first.
 """
 
-import argparse
 import os
 import sys
 from typing import NamedTuple
 
-HERE = os.path.dirname(os.path.abspath(__file__))
-ROOT = os.path.dirname(HERE)
-sys.path[:0] = [HERE]
+from vectors import LISTING, LISTING_NODES, ROOT, book, packed, settle, stored, table_of
 
-from read_vectors import LISTING, book, stored, write
-
-# What the program lower_vectors is run on, and what it must print.
-INPUT = os.path.join(ROOT, "crates", "lower_vectors", "stdin")
-OUTPUT = os.path.join(ROOT, "crates", "lower_vectors", "stdout")
 ANSWERS = os.path.join(ROOT, "compare", "answers")
 
 UNDEFINED, ROOM, BINDINGS = 10, 11, 12
 
 # What the program has room for: MOST in crates/lower_vectors/src/main.rt.
 MOST = 8192
-
-KINDS = (
-    "iden unit injl injr take drop comp case pair assertl assertr fail witness scribe jet"
-).split()
 
 
 class Vector(NamedTuple):
@@ -65,18 +53,9 @@ def accepted(what, data, count, last, symbols=0):
 
 # --- Document 01, "One listing whole" -----------------------------------------
 
-NODES = "scribe 3; iden; pair 0 1; iden; take 3; comp 2 4"
-
-
-def node(text):
-    kind, *operands = text.split()
-    operands = [int(operand) for operand in operands] + [0, 0]
-    return bytes([KINDS.index(kind) + 1]) + b"".join(x.to_bytes(2, "little") for x in operands[:2])
-
 
 def listing():
-    data = book(LISTING)
-    nodes = b"".join(node(text) for text in NODES.split(";"))
+    data, nodes = book(LISTING), table_of(LISTING_NODES)
     for table in (30, 31, 34, 35, 8000):
         yield Vector(f"the listing, {table} bytes", 0, (0, 0, 6), table, data, nodes)
     # A node's record: the constant, the assignment and its comp, the variable.
@@ -187,37 +166,23 @@ def answers():
 # --- The file -----------------------------------------------------------------------
 
 
-def packed(vectors):
+def file_of(vectors):
     out = bytearray()
     for each in vectors:
         number, place, count = each.answer
         lengths = [(len(part), 3) for part in (each.book, each.nodes)]
-        fields = [(each.symbols, 1), (number, 1), (place, 2), (count, 2), (each.table, 3), *lengths]
-        out += b"".join(value.to_bytes(width, "little") for value, width in fields)
+        out += packed((each.symbols, 1), (number, 1), (place, 2), (count, 2), (each.table, 3), *lengths)
         out += each.book + each.nodes
     return bytes(out)
 
 
 def main():
-    parser = argparse.ArgumentParser(description="LOWER's vectors")
-    parser.add_argument("--write", action="store_true", help="write the stored files")
-    parser.add_argument("--list", action="store_true", help="tell each vector")
-    chosen = parser.parse_args()
     edges = [vector for family in (listing, folds, symbols, limits) for vector in family()]
     vectors = edges + list(answers())
     wrong = [f"{each.what}: too long" for each in vectors if max(each.table, len(each.book)) > MOST]
-    if chosen.list:
-        for number, each in enumerate(vectors):
-            print(number, *each.answer, each.what)
-    for path, data in ((INPUT, packed(vectors)), (OUTPUT, b"vectors %d\nwrong 0\n" % len(vectors))):
-        if chosen.write and not wrong:
-            write(path, data)
-        if stored(path) != data:
-            wrong.append(f"{os.path.relpath(path, ROOT)} differs: run with --write")
-    for line in wrong:
-        print(line, file=sys.stderr)
-    print(f"lower vectors: {len(edges)} edges, {len(vectors) - len(edges)} answers of the original's")
-    return 1 if wrong else 0
+    listed = [(each.what, each.answer) for each in vectors]
+    said = f"lower vectors: {len(edges)} edges, {len(vectors) - len(edges)} answers of the original's"
+    return settle("lower_vectors", listed, file_of(vectors), wrong, said)
 
 
 if __name__ == "__main__":

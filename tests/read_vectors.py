@@ -14,16 +14,12 @@ The file crates/read_vectors/stdin holds for each vector: number (1 byte), place
 length of the book (3), the book; low byte first.
 """
 
-import argparse
 import glob
 import os
 import random
 import sys
 
-HERE = os.path.dirname(os.path.abspath(__file__))
-ROOT = os.path.dirname(HERE)
-sys.path[:0] = [HERE, os.path.join(ROOT, "tools")]
-
+from vectors import LISTING, ROOT, book, packed, settle
 from booklib import encode
 from read_model import (
     CUT,
@@ -38,16 +34,10 @@ from read_model import (
     read,
 )
 
-# What the program read_vectors is run on, and what it must print.
-INPUT = os.path.join(ROOT, "crates", "read_vectors", "stdin")
-OUTPUT = os.path.join(ROOT, "crates", "read_vectors", "stdout")
 EXAMPLES = os.path.join(ROOT, "examples")
 
 LEAST_HAND_VECTORS = 120
 MOST_STORED_BYTES = 1_000_000
-
-# Document 01, "One listing whole".
-LISTING = "tu; ts 0 0; vu 0; vr 1 2; pi 7; ec 1 3; sa 4 5; ev 1 7; eb 1 1 6 7"
 
 
 def ok(count):
@@ -56,11 +46,6 @@ def ok(count):
 
 def no(number, place):
     return number, place, 0
-
-
-def book(*texts):
-    """A book from text, whatever its counts say."""
-    return encode("\n".join(texts), "vector", raw=True)
 
 
 def row(first, count):
@@ -697,67 +682,34 @@ def changes(whole, name):
 # --- The file -----------------------------------------------------------------
 
 
-def packed(vectors):
+def file_of(vectors):
     out = bytearray()
     for _, (number, place, count), data in vectors:
-        for value, width in ((number, 1), (place, 2), (count, 2), (len(data), 3)):
-            out += value.to_bytes(width, "little")
-        out += data
+        out += packed((number, 1), (place, 2), (count, 2), (len(data), 3)) + data
     return bytes(out)
 
 
-def complaints(hand, vectors):
+def complaints(hand, data):
     """What is wrong with the vectors themselves."""
-    for what, answer, data in hand:
-        if read(data) != answer:
-            yield f"{what}: the model gives {read(data)}, expected {answer}"
+    for what, answer, entry in hand:
+        if read(entry) != answer:
+            yield f"{what}: the model gives {read(entry)}, expected {answer}"
     if len(hand) < LEAST_HAND_VECTORS:
         yield f"only {len(hand)} hand vectors"
     missing = set(range(10)) - {answer[0] for _, answer, _ in hand}
     if missing:
         yield f"no hand vector gives {sorted(missing)}"
-    if len(packed(vectors)) > MOST_STORED_BYTES:
-        yield f"{len(packed(vectors))} bytes are too many to store"
-
-
-def files(vectors):
-    """The stored files with what each must hold."""
-    yield INPUT, packed(vectors)
-    yield OUTPUT, b"vectors %d\nwrong 0\n" % len(vectors)
-
-
-def stored(path):
-    if not os.path.exists(path):
-        return b""
-    with open(path, "rb") as stream:
-        return stream.read()
-
-
-def write(path, data):
-    with open(path, "wb") as stream:
-        stream.write(data)
+    if len(data) > MOST_STORED_BYTES:
+        yield f"{len(data)} bytes are too many to store"
 
 
 def main():
-    parser = argparse.ArgumentParser(description="READ's vectors")
-    parser.add_argument("--write", action="store_true", help="write the stored file")
-    parser.add_argument("--list", action="store_true", help="tell each vector")
-    chosen = parser.parse_args()
     hand, damaged = hand_vectors(), damaged_vectors()
     vectors = hand + damaged
-    wrong = list(complaints(hand, vectors))
-    if chosen.list:
-        for number, (what, answer, _) in enumerate(vectors):
-            print(number, *answer, what)
-    for path, data in files(vectors):
-        if chosen.write and not wrong:
-            write(path, data)
-        if stored(path) != data:
-            wrong.append(f"{os.path.relpath(path, ROOT)} differs: run with --write")
-    for line in wrong:
-        print(line, file=sys.stderr)
-    print(f"read vectors: {len(hand)} by hand, {len(damaged)} damaged")
-    return 1 if wrong else 0
+    data = file_of(vectors)
+    listed = [(what, answer) for what, answer, _ in vectors]
+    said = f"read vectors: {len(hand)} by hand, {len(damaged)} damaged"
+    return settle("read_vectors", listed, data, complaints(hand, data), said)
 
 
 if __name__ == "__main__":

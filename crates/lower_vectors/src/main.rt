@@ -6,18 +6,17 @@ use book::fault::fault_number;
 use compile::LowerAnswer;
 use compile::lower;
 use libc::STDIN_FILENO;
+use vectors::begins_with;
+use vectors::fill;
+use vectors::is_zero_from;
+use vectors::low_first;
+use vectors::print_totals;
+use vectors::print_wrong;
+use vectors::size_of;
 
 // No stored vector has a longer table, book or row of nodes: tests/lower_vectors.py sees to it. A full table, of 327,675 bytes, would
 // have to be cleared anew for each vector.
 const MOST: usize = 8192;
-
-fn low_first(a: u8, b: u8) -> u16 {
-    (a as u16) + 256 * (b as u16)
-}
-
-fn size_of(a: u8, b: u8, c: u8) -> usize {
-    (a as usize) + 256 * (b as usize) + 65536 * (c as usize)
-}
 
 fn is_answer(head: [u8; 15], answer: LowerAnswer) -> bool {
     match answer {
@@ -34,40 +33,6 @@ fn is_answer(head: [u8; 15], answer: LowerAnswer) -> bool {
             }
             why.place == low_first(head[2], head[3])
         }
-    }
-}
-
-fn begins_with(table: &[u8], nodes: &[u8]) -> bool {
-    if table.len() < nodes.len() {
-        return false;
-    }
-    let mut k: usize = 0;
-    while k < nodes.len() {
-        if table[k] != nodes[k] {
-            return false;
-        }
-        k += 1;
-    }
-    true
-}
-
-fn is_zero_from(table: &[u8], from: usize) -> bool {
-    let mut k = from;
-    while k < table.len() {
-        if table[k] != 0 {
-            return false;
-        }
-        k += 1;
-    }
-    true
-}
-
-// LOWER is to write every byte, whatever the table held.
-fn fill(table: &mut [u8]) {
-    let mut k: usize = 0;
-    while k < table.len() {
-        table[k] = 165;
-        k += 1;
     }
 }
 
@@ -106,15 +71,6 @@ fn is_next_right(head: [u8; 15]) -> bool {
         return false;
     }
     is_read_right(head, &mut book[..b], &mut nodes[..n], &mut table[..t])
-}
-
-fn print_wrong(i: u64) {
-    console::print_count(b"wrong", i);
-}
-
-fn print_totals(run: u64, wrong: u64) {
-    console::print_count(b"vectors", run);
-    console::print_count(b"wrong", wrong);
 }
 
 fn main() {

@@ -4,14 +4,10 @@
 use book::fault::Numbers;
 use book::fault::numbers_of;
 use libc::STDIN_FILENO;
-
-fn low_first(a: u8, b: u8) -> u16 {
-    (a as u16) + 256 * (b as u16)
-}
-
-fn size_of(a: u8, b: u8, c: u8) -> usize {
-    (a as usize) + 256 * (b as usize) + 65536 * (c as usize)
-}
+use vectors::low_first;
+use vectors::print_totals;
+use vectors::print_wrong;
+use vectors::size_of;
 
 fn is_right(head: [u8; 8], got: Numbers) -> bool {
     if got.number != head[0] {
@@ -37,15 +33,6 @@ fn is_next_right(head: [u8; 8]) -> bool {
         return false;
     }
     is_book_right(head, &mut buffer[..size])
-}
-
-fn print_wrong(i: u64) {
-    console::print_count(b"wrong", i);
-}
-
-fn print_totals(run: u64, wrong: u64) {
-    console::print_count(b"vectors", run);
-    console::print_count(b"wrong", wrong);
 }
 
 fn main() {
