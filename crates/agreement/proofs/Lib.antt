@@ -4,3 +4,4 @@ pub mod Heaps
 pub mod Seeding
 pub mod Agree
 pub mod Meaning
+pub mod Widths

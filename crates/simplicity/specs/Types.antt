@@ -1,6 +1,6 @@
 -- Simplicity's types, as its public definition builds them.
 -- Assumes nothing.
-use Prim.Native.Nat.{ℕ, zero, suc}
+use Prim.Native.Nat.{ℕ, zero, suc, _+_, max}
 use mathlib.Core.Bool.{Bool, true, false}
 use Rattle.laws.specs.Table.{both}
 
@@ -27,6 +27,12 @@ wordOf k = power two k
 unfoldable pub fewer : Ty → ℕ → Ty
 fewer a zero = sum one a
 fewer a (suc k) = product (sum one (power a (suc k))) (fewer a k)
+
+-- how many bits a value of a type takes: a sum one more than its wider side, a product both its parts
+unfoldable pub width : Ty → ℕ
+width one = 0
+width (sum a b) = 1 + max (width a) (width b)
+width (product a b) = width a + width b
 
 -- whether two types are the same
 unfoldable pub same : Ty → Ty → Bool
