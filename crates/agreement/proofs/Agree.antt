@@ -29,7 +29,7 @@ use Rattle.named.specs.Combinators.{IDEN, UNIT, INJL, INJR, TAKE, DROP, COMP, C
 use Rattle.cells.specs.Entries.{kindAt}
 use Rattle.nodes.specs.Given.{Text, Given, holds, typed, cellOf, entryOf, supplies}
 use Rattle.cells.specs.Cells.{leftCell, rightCell, pairCell, shapeAt, World, hold, newest, letGo, End, fails, refuses, Out, got, halt, add, bind, store, storeValue, deliver}
-use Rattle.machine.specs.Run.{one, other, stuckAt, handOn, witnessed, kinds, byKind, run}
+use Rattle.machine.specs.Run.{leftOf, rightOf, stuckAt, handOn, witnessed, nodeKinds, byKind, run}
 use Rattle.agreement.specs.Agreement.{witnessesOf, Says, says-steep, says-witness, says-cells, says-stuck, says-jet}
 use Rattle.agreement.proofs.Reading.{Back, b-unit, b-left, b-right, b-pair, on-jet}
 use Rattle.agreement.proofs.Unfolding.{Unfolds, u-iden, u-unit, u-injl, u-injr, u-take, u-drop, u-comp, u-case, u-pair, u-assertl, u-assertr, u-fail, u-witness, u-scribe, u-jet}
@@ -188,19 +188,19 @@ module _ (g : Given) (valid : Valid (g .book .bytes) (g .book .index) (g .book .
       (both-right (ltb (2 * x + 1) (length (g .witnesses))) (typed (g .book) r t) (subst T (sym e) tt))
 
   -- a witness
-  agrees-witness : (n : ℕ) (w : World) (vs : List Value) → T (holds (g .book) TYPE (other g n)) → Heap (g .book) (g .book .records) w vs
-      → Agrees (g .book) vs (witnessed g n w) (supply (one g n) (typeOf (g .book .bytes) (g .book .index) (other g n)))
+  agrees-witness : (n : ℕ) (w : World) (vs : List Value) → T (holds (g .book) TYPE (rightOf g n)) → Heap (g .book) (g .book .records) w vs
+      → Agrees (g .book) vs (witnessed g n w) (supply (leftOf g n) (typeOf (g .book .bytes) (g .book .index) (rightOf g n)))
   unfolding witnessesOf supplies
-  agrees-witness n w vs t p = rw (witness-tests (g .book) valid (g .witnesses) (one g n) (other g n) t) (go (supplies g (one g n) (other g n)) refl)
+  agrees-witness n w vs t p = rw (witness-tests (g .book) valid (g .witnesses) (leftOf g n) (rightOf g n) t) (go (supplies g (leftOf g n) (rightOf g n)) refl)
     where
-      go : (c : Bool) → supplies g (one g n) (other g n) ≡ c
-          → Agrees (g .book) vs (pick c (got 0 (cellOf (g .book) (entryOf (g .witnesses) (one g n))) w) (halt 0 (refuses Witness) n)) (pick c (value (valueOf (g .book .bytes) (g .book .index) (entryOf (g .witnesses) (one g n)))) missing)
-      go true e = (_, refl, constant-holds (g .book) valid (entryOf (g .witnesses) (one g n)) (supplied-value (one g n) (other g n) e) w vs p, p)
+      go : (c : Bool) → supplies g (leftOf g n) (rightOf g n) ≡ c
+          → Agrees (g .book) vs (pick c (got 0 (cellOf (g .book) (entryOf (g .witnesses) (leftOf g n))) w) (halt 0 (refuses Witness) n)) (pick c (value (valueOf (g .book .bytes) (g .book .index) (entryOf (g .witnesses) (leftOf g n)))) missing)
+      go true e = (_, refl, constant-holds (g .book) valid (entryOf (g .witnesses) (leftOf g n)) (supplied-value (leftOf g n) (rightOf g n) e) w vs p, p)
       go false e = says-witness
 
   -- node n by its kind
   entered : (k n kd : ℕ) → kindAt (g .nodes) n ≡ kd → (x : ℕ) (w : World) (vs : List Value) (q : Outcome)
-      → Agrees (g .book) vs (choose (kinds g (run k g)) kd (λ m x w. stuckAt m) n x w) q → Agrees (g .book) vs (run (suc k) g n x w) q
+      → Agrees (g .book) vs (choose (nodeKinds g (run k g)) kd (λ m x w. stuckAt m) n x w) q → Agrees (g .book) vs (run (suc k) g n x w) q
   unfolding run byKind
   entered k n kd e x w vs q h = agrees-add (g .book) vs 1 _ q (rw e h)
 
@@ -213,11 +213,11 @@ module _ (g : Given) (valid : Valid (g .book .bytes) (g .book .index) (g .book .
   agree (suc k) (u-unit {n = n} e) x w v vs h p = entered k n UNIT e x w vs _ (unit, refl, p .first, p)
   agree (suc k) (u-injl {n = n} {t = t} e d) x w v vs h p =
       entered k n INJL e x w vs _
-      (agrees-bind (g .book) vs vs (run k g (one g n) x w) (eval supply t v) _ _ (agree k d x w v vs h p)
+      (agrees-bind (g .book) vs vs (run k g (leftOf g n) x w) (eval supply t v) _ _ (agree k d x w v vs h p)
       (λ y w′ a i q. agrees-stored (g .book) vs w′ (left a) (store n leftCell y 0 w′) q (stored-left n w′ i)))
   agree (suc k) (u-injr {n = n} {t = t} e d) x w v vs h p =
       entered k n INJR e x w vs _
-      (agrees-bind (g .book) vs vs (run k g (one g n) x w) (eval supply t v) _ _ (agree k d x w v vs h p)
+      (agrees-bind (g .book) vs vs (run k g (leftOf g n) x w) (eval supply t v) _ _ (agree k d x w v vs h p)
       (λ y w′ a i q. agrees-stored (g .book) vs w′ (right a) (store n rightCell y 0 w′) q (stored-right n w′ i)))
   agree (suc k) (u-take {n = n} e d) x w v vs h p =
       entered k n TAKE e x w vs _
@@ -227,36 +227,36 @@ module _ (g : Given) (valid : Valid (g .book .bytes) (g .book .index) (g .book .
       (pair-reads (g .book) vs w n _ _ (h .below) (h .reads) (λ y z a c i j. agree k d z w c vs j p))
   agree (suc k) (u-comp {n = n} {s = s} {t = t} e d f) x w v vs h p =
       entered k n COMP e x w vs _
-      (agrees-bind (g .book) vs vs (run k g (one g n) x w) (eval supply s v) _ (eval supply t) (agree k d x w v vs h p)
+      (agrees-bind (g .book) vs vs (run k g (leftOf g n) x w) (eval supply s v) _ (eval supply t) (agree k d x w v vs h p)
       (λ y w′ a i q. agree k f y w′ a vs i q))
   agree (suc k) (u-case {n = n} {s = s} {t = t} e d f) x w v vs h p =
       entered k n CASE e x w vs _
       (pair-reads (g .book) vs w n _ _ (h .below) (h .reads) (λ c r a b i j.
       sum-reads (g .book) vs w n _ _ _ _ (i .below) (i .reads)
-      (λ y m l. handed (g .book) vs n w l j p (run k g (one g n)) (eval supply s) (λ z w′ o. agree k d z w′ o vs))
-      (λ y m l. handed (g .book) vs n w l j p (run k g (other g n)) (eval supply t) (λ z w′ o. agree k f z w′ o vs))))
+      (λ y m l. handed (g .book) vs n w l j p (run k g (leftOf g n)) (eval supply s) (λ z w′ o. agree k d z w′ o vs))
+      (λ y m l. handed (g .book) vs n w l j p (run k g (rightOf g n)) (eval supply t) (λ z w′ o. agree k f z w′ o vs))))
   agree (suc k) (u-pair {n = n} {s = s} {t = t} e d f) x w v vs h p =
       entered k n PAIR e x w vs _
-      (agrees-bind (g .book) vs (v ∷ vs) (run k g (one g n) x (hold x w)) (eval supply s v) _ _
+      (agrees-bind (g .book) vs (v ∷ vs) (run k g (leftOf g n) x (hold x w)) (eval supply s v) _ _
       (agree k d x (hold x w) v (v ∷ vs) h (heap-hold h p))
       (λ y w′ a i q.
-      agrees-bind (g .book) vs (a ∷ vs) (run k g (other g n) (newest w′) (hold y (letGo w′))) (eval supply t v) _ _
+      agrees-bind (g .book) vs (a ∷ vs) (run k g (rightOf g n) (newest w′) (hold y (letGo w′))) (eval supply t v) _ _
       (agree k f (newest w′) (hold y (letGo w′)) v (a ∷ vs) (heap-newest q) (heap-hold i (heap-let-go q)))
       (λ z w″ b j o. agrees-stored (g .book) vs (letGo w″) (pair a b) (store n pairCell (newest w″) z (letGo w″)) (heap-let-go o) (stored-pair n (letGo w″) (heap-newest o) j))))
   agree (suc k) (u-assertl {n = n} {s = s} e d) x w v vs h p =
       entered k n ASSERTL e x w vs _
       (pair-reads (g .book) vs w n _ _ (h .below) (h .reads) (λ c r a b i j.
       sum-reads (g .book) vs w n _ _ _ _ (i .below) (i .reads)
-      (λ y m l. handed (g .book) vs n w l j p (run k g (one g n)) (eval supply s) (λ z w′ o. agree k d z w′ o vs))
+      (λ y m l. handed (g .book) vs n w l j p (run k g (leftOf g n)) (eval supply s) (λ z w′ o. agree k d z w′ o vs))
       (λ y m l. refl)))
   agree (suc k) (u-assertr {n = n} {t = t} e d) x w v vs h p =
       entered k n ASSERTR e x w vs _
       (pair-reads (g .book) vs w n _ _ (h .below) (h .reads) (λ c r a b i j.
       sum-reads (g .book) vs w n _ _ _ _ (i .below) (i .reads)
       (λ y m l. refl)
-      (λ y m l. handed (g .book) vs n w l j p (run k g (other g n)) (eval supply t) (λ z w′ o. agree k d z w′ o vs))))
+      (λ y m l. handed (g .book) vs n w l j p (run k g (rightOf g n)) (eval supply t) (λ z w′ o. agree k d z w′ o vs))))
   agree (suc k) (u-fail {n = n} e) x w v vs h p = entered k n FAIL e x w vs _ refl
   agree (suc k) (u-witness {n = n} e t) x w v vs h p = entered k n WITNESS e x w vs _ (agrees-witness n w vs t p)
-  agree (suc k) (u-scribe {n = n} e t) x w v vs h p = entered k n SCRIBE e x w vs _ (_, refl, constant-holds (g .book) valid (one g n) t w vs p, p)
+  agree (suc k) (u-scribe {n = n} e t) x w v vs h p = entered k n SCRIBE e x w vs _ (_, refl, constant-holds (g .book) valid (leftOf g n) t w vs p, p)
   agree (suc k) (u-jet {n = n} e) x w v vs h p =
-      entered k n JET e x w vs _ (rw (on-jet (one g n) (h .reads)) (agrees-deliver (g .book) vs n (jetOn shape (one g n) v) w p))
+      entered k n JET e x w vs _ (rw (on-jet (leftOf g n) (h .reads)) (agrees-deliver (g .book) vs n (jetOn shape (leftOf g n) v) w p))

@@ -17,26 +17,26 @@ use Rattle.named.specs.Combinators.{IDEN, UNIT, INJL, INJR, TAKE, DROP, COMP, C
 use Rattle.cells.specs.Entries.{kindAt}
 use Rattle.nodes.specs.Given.{Text, Given, holds}
 use Rattle.nodes.specs.Nodes.{rolesOf, fits, roleAt, formed, firstBad, Judged, wellFormed, badAt, judge}
-use Rattle.machine.specs.Run.{one, other}
+use Rattle.machine.specs.Run.{leftOf, rightOf}
 use Rattle.agreement.specs.Unfold.{makers, termTo, termAt}
 
 -- node n is a term: its kind, and what its operands are
 pub data Unfolds (g : Given) : ℕ → Term → Type 0 where
   u-iden : {n : ℕ} → kindAt (g .nodes) n ≡ IDEN → Unfolds g n iden
   u-unit : {n : ℕ} → kindAt (g .nodes) n ≡ UNIT → Unfolds g n unit
-  u-injl : {n : ℕ} {t : Term} → kindAt (g .nodes) n ≡ INJL → Unfolds g (one g n) t → Unfolds g n (injl t)
-  u-injr : {n : ℕ} {t : Term} → kindAt (g .nodes) n ≡ INJR → Unfolds g (one g n) t → Unfolds g n (injr t)
-  u-take : {n : ℕ} {t : Term} → kindAt (g .nodes) n ≡ TAKE → Unfolds g (one g n) t → Unfolds g n (take t)
-  u-drop : {n : ℕ} {t : Term} → kindAt (g .nodes) n ≡ DROP → Unfolds g (one g n) t → Unfolds g n (drop t)
-  u-comp : {n : ℕ} {s t : Term} → kindAt (g .nodes) n ≡ COMP → Unfolds g (one g n) s → Unfolds g (other g n) t → Unfolds g n (comp s t)
-  u-case : {n : ℕ} {s t : Term} → kindAt (g .nodes) n ≡ CASE → Unfolds g (one g n) s → Unfolds g (other g n) t → Unfolds g n (case s t)
-  u-pair : {n : ℕ} {s t : Term} → kindAt (g .nodes) n ≡ PAIR → Unfolds g (one g n) s → Unfolds g (other g n) t → Unfolds g n (pair s t)
-  u-assertl : {n : ℕ} {s : Term} → kindAt (g .nodes) n ≡ ASSERTL → Unfolds g (one g n) s → Unfolds g n (assertl s (other g n))
-  u-assertr : {n : ℕ} {t : Term} → kindAt (g .nodes) n ≡ ASSERTR → Unfolds g (other g n) t → Unfolds g n (assertr (one g n) t)
+  u-injl : {n : ℕ} {t : Term} → kindAt (g .nodes) n ≡ INJL → Unfolds g (leftOf g n) t → Unfolds g n (injl t)
+  u-injr : {n : ℕ} {t : Term} → kindAt (g .nodes) n ≡ INJR → Unfolds g (leftOf g n) t → Unfolds g n (injr t)
+  u-take : {n : ℕ} {t : Term} → kindAt (g .nodes) n ≡ TAKE → Unfolds g (leftOf g n) t → Unfolds g n (take t)
+  u-drop : {n : ℕ} {t : Term} → kindAt (g .nodes) n ≡ DROP → Unfolds g (leftOf g n) t → Unfolds g n (drop t)
+  u-comp : {n : ℕ} {s t : Term} → kindAt (g .nodes) n ≡ COMP → Unfolds g (leftOf g n) s → Unfolds g (rightOf g n) t → Unfolds g n (comp s t)
+  u-case : {n : ℕ} {s t : Term} → kindAt (g .nodes) n ≡ CASE → Unfolds g (leftOf g n) s → Unfolds g (rightOf g n) t → Unfolds g n (case s t)
+  u-pair : {n : ℕ} {s t : Term} → kindAt (g .nodes) n ≡ PAIR → Unfolds g (leftOf g n) s → Unfolds g (rightOf g n) t → Unfolds g n (pair s t)
+  u-assertl : {n : ℕ} {s : Term} → kindAt (g .nodes) n ≡ ASSERTL → Unfolds g (leftOf g n) s → Unfolds g n (assertl s (rightOf g n))
+  u-assertr : {n : ℕ} {t : Term} → kindAt (g .nodes) n ≡ ASSERTR → Unfolds g (rightOf g n) t → Unfolds g n (assertr (leftOf g n) t)
   u-fail : {n : ℕ} → kindAt (g .nodes) n ≡ FAIL → Unfolds g n fail
-  u-witness : {n : ℕ} → kindAt (g .nodes) n ≡ WITNESS → T (holds (g .book) TYPE (other g n)) → Unfolds g n (witness (one g n) (typeOf (g .book .bytes) (g .book .index) (other g n)))
-  u-scribe : {n : ℕ} → kindAt (g .nodes) n ≡ SCRIBE → T (holds (g .book) VALUE (one g n)) → Unfolds g n (scribe (valueOf (g .book .bytes) (g .book .index) (one g n)))
-  u-jet : {n : ℕ} → kindAt (g .nodes) n ≡ JET → Unfolds g n (jet (one g n))
+  u-witness : {n : ℕ} → kindAt (g .nodes) n ≡ WITNESS → T (holds (g .book) TYPE (rightOf g n)) → Unfolds g n (witness (leftOf g n) (typeOf (g .book .bytes) (g .book .index) (rightOf g n)))
+  u-scribe : {n : ℕ} → kindAt (g .nodes) n ≡ SCRIBE → T (holds (g .book) VALUE (leftOf g n)) → Unfolds g n (scribe (valueOf (g .book .bytes) (g .book .index) (leftOf g n)))
+  u-jet : {n : ℕ} → kindAt (g .nodes) n ≡ JET → Unfolds g n (jet (leftOf g n))
 
 abbrev allKinds : List ℕ
 allKinds = IDEN ∷ UNIT ∷ INJL ∷ INJR ∷ TAKE ∷ DROP ∷ COMP ∷ CASE ∷ PAIR ∷ ASSERTL ∷ ASSERTR ∷ FAIL ∷ WITNESS ∷ SCRIBE ∷ JET ∷ []
@@ -44,10 +44,10 @@ allKinds = IDEN ∷ UNIT ∷ INJL ∷ INJR ∷ TAKE ∷ DROP ∷ COMP ∷ CASE �
 module _ (g : Given) (n : ℕ) where
   -- the operands of node n fit, were its kind k
   abbrev firstFits : ℕ → Bool
-  firstFits k = fits (g .book) (roleAt k 0) n (one g n)
+  firstFits k = fits (g .book) (roleAt k 0) n (leftOf g n)
 
   abbrev secondFits : ℕ → Bool
-  secondFits k = fits (g .book) (roleAt k 1) n (other g n)
+  secondFits k = fits (g .book) (roleAt k 1) n (rightOf g n)
 
   -- no operand fits a bad kind
   fits-none : (k : ℕ) → ((j : ℕ) → among allKinds j ≡ true → eqb k j ≡ false) → firstFits k ≡ false

@@ -20,4 +20,6 @@ all-fitting = tt
 pub widths : (j : ℕ) → j < 11 → (jetOf j .input ≡ width (jetTypes j .from)) × (jetOf j .output ≡ width (jetTypes j .to))
 widths j l =
     let t : T (fitting j) = all-below fitting 11 all-fitting j l in
-    (eqb→eq _ _ (both-left _ _ t), eqb→eq _ _ (both-right (eqb (jetOf j .input) (width (jetTypes j .from))) _ t))
+    let i : Bool = eqb (jetOf j .input) (width (jetTypes j .from)) in
+    let o : Bool = eqb (jetOf j .output) (width (jetTypes j .to)) in
+    (eqb→eq (jetOf j .input) (width (jetTypes j .from)) (both-left i o t), eqb→eq (jetOf j .output) (width (jetTypes j .to)) (both-right i o t))

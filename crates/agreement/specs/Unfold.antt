@@ -11,26 +11,26 @@ use Rattle.named.specs.Combinators.{IDEN, UNIT, INJL, INJR, TAKE, DROP, COMP, C
 use Rattle.cells.specs.Entries.{kindAt, leftAt, rightAt}
 use Rattle.nodes.specs.Given.{Given}
 use Rattle.cells.specs.Cells.{shapeAt}
-use Rattle.machine.specs.Run.{one, other}
+use Rattle.machine.specs.Run.{leftOf, rightOf}
 
 -- document 01, Stored order: what each kind of node is as a term, its children being the terms `kids`; the operands' meanings
 abbrev pub makers : Given → (ℕ → Term) → List (Case (ℕ → Term))
 makers g kids =
     at IDEN (λ n. iden)
     ∷ at UNIT (λ n. unit)
-    ∷ at INJL (λ n. injl (kids (one g n)))
-    ∷ at INJR (λ n. injr (kids (one g n)))
-    ∷ at TAKE (λ n. take (kids (one g n)))
-    ∷ at DROP (λ n. drop (kids (one g n)))
-    ∷ at COMP (λ n. comp (kids (one g n)) (kids (other g n)))
-    ∷ at CASE (λ n. case (kids (one g n)) (kids (other g n)))
-    ∷ at PAIR (λ n. pair (kids (one g n)) (kids (other g n)))
-    ∷ at ASSERTL (λ n. assertl (kids (one g n)) (other g n))
-    ∷ at ASSERTR (λ n. assertr (one g n) (kids (other g n)))
+    ∷ at INJL (λ n. injl (kids (leftOf g n)))
+    ∷ at INJR (λ n. injr (kids (leftOf g n)))
+    ∷ at TAKE (λ n. take (kids (leftOf g n)))
+    ∷ at DROP (λ n. drop (kids (leftOf g n)))
+    ∷ at COMP (λ n. comp (kids (leftOf g n)) (kids (rightOf g n)))
+    ∷ at CASE (λ n. case (kids (leftOf g n)) (kids (rightOf g n)))
+    ∷ at PAIR (λ n. pair (kids (leftOf g n)) (kids (rightOf g n)))
+    ∷ at ASSERTL (λ n. assertl (kids (leftOf g n)) (rightOf g n))
+    ∷ at ASSERTR (λ n. assertr (leftOf g n) (kids (rightOf g n)))
     ∷ at FAIL (λ n. fail)
-    ∷ at WITNESS (λ n. witness (one g n) (typeOf (g .book .bytes) (g .book .index) (other g n)))
-    ∷ at SCRIBE (λ n. scribe (valueOf (g .book .bytes) (g .book .index) (one g n)))
-    ∷ at JET (λ n. jet (one g n))
+    ∷ at WITNESS (λ n. witness (leftOf g n) (typeOf (g .book .bytes) (g .book .index) (rightOf g n)))
+    ∷ at SCRIBE (λ n. scribe (valueOf (g .book .bytes) (g .book .index) (leftOf g n)))
+    ∷ at JET (λ n. jet (leftOf g n))
     ∷ []
 
 -- node n as a term, k nodes down

@@ -12,7 +12,7 @@ use Rattle.book.specs.declared.fault.Fault.the-variants.{Stuck}
 use Rattle.cells.specs.Entries.{kindAt, leftAt, rightAt}
 use Rattle.nodes.specs.Given.{Given, cellOf}
 use Rattle.cells.specs.Cells.{shapeAt, World, world, hold, fails, refuses, Out, got, halt, bind, store, deliver}
-use Rattle.machine.specs.Run.{Runs, handOn, witnessed, kinds, byKind}
+use Rattle.machine.specs.Run.{Runs, handOn, witnessed, nodeKinds, byKind}
 use Rattle.machine.specs.Machine.{Frame, skip, second, beside, lefted, righted, paired, frame, holding, apply, weight, Branches}
 use Rattle.cells.proofs.Outs.{add-none}
 use Rattle.cells.proofs.Shapes.{left-shape, right-shape, pair-shape, no-sum, no-pair}
@@ -55,7 +55,7 @@ module _ (g : Given) (n x : ℕ) (w : World) (kids : Runs) where
 
   pub kind-none : (k : ℕ) → kindAt (g .nodes) n ≡ k → {K : Type 0} → Rest (1 ∷ 2 ∷ 3 ∷ 4 ∷ 5 ∷ 6 ∷ 7 ∷ 8 ∷ 9 ∷ 10 ∷ 11 ∷ 12 ∷ 13 ∷ 14 ∷ 15 ∷ []) k K → byKind g kids n x w ≡ halt 0 (refuses Stuck) n
   unfolding byKind
-  kind-none k e {K} r = rw e (ap (λ (f : Runs). f n x w) (rest (kinds g kids) k (λ m y v. halt 0 (refuses Stuck) m) K r .1))
+  kind-none k e {K} r = rw e (ap (λ (f : Runs). f n x w) (rest (nodeKinds g kids) k (λ m y v. halt 0 (refuses Stuck) m) K r .1))
 
   -- nodes whose child is entered
   pub kind-injl : (m : ℕ) → kindAt (g .nodes) n ≡ 3 → m ≡ leftAt (g .nodes) n → byKind g kids n x w ≡ apply g kids (frame 3 n) (kids m x w)

@@ -11,7 +11,7 @@ use Rattle.book.specs.Valid.{Valid}
 use Rattle.book.specs.declared.fault.Fault.the-variants as faults
 use Rattle.nodes.specs.Given.{Text, Given, cellOf}
 use Rattle.cells.specs.Cells.{leftCell, rightCell, pairCell, World, world, hold, newest, letGo, keeping, End, fails, refuses, Out, got, halt, add, bind, store}
-use Rattle.machine.specs.Run.{DEEP, Runs, other, run}
+use Rattle.machine.specs.Run.{DEEP, Runs, rightOf, run}
 use Rattle.cells.specs.Keeping.{leads}
 use Rattle.cells.specs.declared.table.Kept.{Kept}
 use Rattle.machine.specs.declared.State.{State}
@@ -49,8 +49,8 @@ holding c h hs = choose (at 0 hs ∷ at 1 hs ∷ at 2 (h ∷ hs) ∷ at 3 hs ∷
 -- what a frame makes of an outcome, children running as `kids`
 unfoldable pub apply : Given → Runs → Frame → Out → Out
 apply g kids skip o = o
-apply g kids (second n) o = bind o (kids (other g n))
-apply g kids (beside n) o = bind o (λ a w. keeping a (kids (other g n) (newest w)) (λ b c. store n pairCell c b) (letGo w))
+apply g kids (second n) o = bind o (kids (rightOf g n))
+apply g kids (beside n) o = bind o (λ a w. keeping a (kids (rightOf g n) (newest w)) (λ b c. store n pairCell c b) (letGo w))
 apply g kids (lefted n) o = bind o (λ v. store n leftCell v 0)
 apply g kids (righted n) o = bind o (λ v. store n rightCell v 0)
 apply g kids (paired n) o = bind o (λ b w. store n pairCell (newest w) b (letGo w))

@@ -19,12 +19,12 @@ DEEP = 4096
 abbrev pub Runs : Type 0
 Runs = ℕ → ℕ → World → Out
 
--- the children of node n
-abbrev pub one : Given → ℕ → ℕ
-one g n = leftAt (g .nodes) n
+-- the operands of node n: children, or what its kind says
+abbrev pub leftOf : Given → ℕ → ℕ
+leftOf g n = leftAt (g .nodes) n
 
-abbrev pub other : Given → ℕ → ℕ
-other g n = rightAt (g .nodes) n
+abbrev pub rightOf : Given → ℕ → ℕ
+rightOf g n = rightAt (g .nodes) n
 
 -- document 01, Refusal 19: the value has not the shape the node needs
 abbrev pub stuckAt : ℕ → Out
@@ -40,31 +40,31 @@ branch n l r x w = ifPair (shapeAt (w .table) x) (λ s e. ifSum (shapeAt (w .tab
 
 -- document 01, Refusal 17: node n, a witness of a name and a type: its value's cell
 abbrev pub witnessed : Given → ℕ → World → Out
-witnessed g n w = pick (supplies g (one g n) (other g n)) (got 0 (cellOf (g .book) (entryOf (g .witnesses) (one g n))) w) (halt 0 (refuses Witness) n)
+witnessed g n w = pick (supplies g (leftOf g n) (rightOf g n)) (got 0 (cellOf (g .book) (entryOf (g .witnesses) (leftOf g n))) w) (halt 0 (refuses Witness) n)
 
 -- document 01, CHECK and the meanings: what each kind of node makes of cell x, its children running as `kids`
-abbrev pub kinds : Given → Runs → List (Case Runs)
-kinds g kids =
+abbrev pub nodeKinds : Given → Runs → List (Case Runs)
+nodeKinds g kids =
     at IDEN (λ n x w. got 0 x w)
     ∷ at UNIT (λ n x w. got 0 0 w)
-    ∷ at INJL (λ n x w. bind (kids (one g n) x w) (λ a. store n leftCell a 0))
-    ∷ at INJR (λ n x w. bind (kids (one g n) x w) (λ a. store n rightCell a 0))
-    ∷ at TAKE (λ n x w. ifPair (shapeAt (w .table) x) (λ a b. kids (one g n) a w) (stuckAt n))
-    ∷ at DROP (λ n x w. ifPair (shapeAt (w .table) x) (λ a b. kids (one g n) b w) (stuckAt n))
-    ∷ at COMP (λ n x w. bind (kids (one g n) x w) (kids (other g n)))
-    ∷ at CASE (λ n x. branch n (λ a e. handOn n a e (kids (one g n))) (λ a e. handOn n a e (kids (other g n))) x)
-    ∷ at PAIR (λ n x. keeping x (kids (one g n) x) (λ a y. keeping a (kids (other g n) y) (λ b c. store n pairCell c b)))
-    ∷ at ASSERTL (λ n x. branch n (λ a e. handOn n a e (kids (one g n))) (λ a e w. halt 0 fails n) x)
-    ∷ at ASSERTR (λ n x. branch n (λ a e w. halt 0 fails n) (λ a e. handOn n a e (kids (other g n))) x)
+    ∷ at INJL (λ n x w. bind (kids (leftOf g n) x w) (λ a. store n leftCell a 0))
+    ∷ at INJR (λ n x w. bind (kids (leftOf g n) x w) (λ a. store n rightCell a 0))
+    ∷ at TAKE (λ n x w. ifPair (shapeAt (w .table) x) (λ a b. kids (leftOf g n) a w) (stuckAt n))
+    ∷ at DROP (λ n x w. ifPair (shapeAt (w .table) x) (λ a b. kids (leftOf g n) b w) (stuckAt n))
+    ∷ at COMP (λ n x w. bind (kids (leftOf g n) x w) (kids (rightOf g n)))
+    ∷ at CASE (λ n x. branch n (λ a e. handOn n a e (kids (leftOf g n))) (λ a e. handOn n a e (kids (rightOf g n))) x)
+    ∷ at PAIR (λ n x. keeping x (kids (leftOf g n) x) (λ a y. keeping a (kids (rightOf g n) y) (λ b c. store n pairCell c b)))
+    ∷ at ASSERTL (λ n x. branch n (λ a e. handOn n a e (kids (leftOf g n))) (λ a e w. halt 0 fails n) x)
+    ∷ at ASSERTR (λ n x. branch n (λ a e w. halt 0 fails n) (λ a e. handOn n a e (kids (rightOf g n))) x)
     ∷ at FAIL (λ n x w. halt 0 fails n)
     ∷ at WITNESS (λ n x. witnessed g n)
-    ∷ at SCRIBE (λ n x w. got 0 (cellOf (g .book) (one g n)) w)
-    ∷ at JET (λ n x w. deliver n (jetOn (shapeAt (w .table)) (one g n) x) w)
+    ∷ at SCRIBE (λ n x w. got 0 (cellOf (g .book) (leftOf g n)) w)
+    ∷ at JET (λ n x w. deliver n (jetOn (shapeAt (w .table)) (leftOf g n) x) w)
     ∷ []
 
 -- node n by its kind
 unfoldable pub byKind : Given → Runs → Runs
-byKind g kids n = choose (kinds g kids) (kindAt (g .nodes) n) (λ m x w. stuckAt m) n
+byKind g kids n = choose (nodeKinds g kids) (kindAt (g .nodes) n) (λ m x w. stuckAt m) n
 
 -- document 01, Refusal 16: node n on cell x, where k more nodes may be entered one below the other
 unfoldable pub run : ℕ → Given → Runs
