@@ -6,7 +6,8 @@
 LIBRARY is the static library of `host`, or an object of it, for this machine's processor. On x86-64 that is what
 `rt staticlib host` writes, which is made where no LIBRARY is given. Prints a row of docs/PERFORMANCE.md for each table:
 its nodes, how many nodes a run enters, the answer's number, how long a call takes, and by the medians how many million
-nodes are entered a second and how many times as long RUN takes.
+nodes are entered a second and how many times as long RUN takes. The plain machine is compiled twice: as it stands, and
+with the parts of a step inlined by force.
 """
 import os
 import platform
@@ -31,9 +32,12 @@ def main():
     program = os.path.join(OUT, "run")
     source = os.path.join(ROOT, "bench", "run.rs")
     build = ["rustc", "--edition", "2021", "-C", "opt-level=3", "-C", "panic=abort", "-C", "codegen-units=1"]
-    subprocess.run([*build, "-C", f"link-arg={library()}", source, "-o", program], check=True)
-    return subprocess.run([program]).returncode
+    build += ["--check-cfg", "cfg(forced)", "-C", f"link-arg={library()}", source, "-o", program]
+    for title, words in ("plain", []), ("plain, its parts inlined by force", ["--cfg", "forced"]):
+        subprocess.run([*build, *words], check=True)
+        print(f"\n{title}:\n", flush=True)
+        subprocess.run([program], check=True)
 
 
 if __name__ == "__main__":
-    sys.exit(main())
+    main()

@@ -165,8 +165,8 @@ fn malformed(nodes: &[Entry]) -> Option<usize> {
     })
 }
 
-/// The parts of a step are inlined by force: left to itself the compiler keeps
-/// them apart, and is a third slower.
+/// The compiler keeps the parts of a step apart, which makes it a third slower
+/// than one whose parts are inlined by force, as they are with `--cfg forced`.
 impl Plain<'_> {
     /// Runs the table; where `COUNT` is asked for, tells how many nodes were entered.
     fn run<const COUNT: bool>(nodes: &[Entry], cells: &mut [Entry]) -> (RunOutcome, u64) {
@@ -224,7 +224,7 @@ impl Plain<'_> {
         }
     }
 
-    #[inline(always)]
+    #[cfg_attr(forced, inline(always))]
     fn enter(&mut self, node: u16, input: u16, depth: u16) -> Result<Next, Stop> {
         let entry = self.nodes[usize::from(node)];
         let (left, right) = operands(entry);
@@ -252,7 +252,7 @@ impl Plain<'_> {
         }
     }
 
-    #[inline(always)]
+    #[cfg_attr(forced, inline(always))]
     fn leave(&mut self, frame: Frame, cell: u16) -> Result<Next, Stop> {
         let made = match frame.then {
             Then::Comp => return Ok(Next::Enter(frame.node, cell)),
@@ -272,7 +272,7 @@ impl Plain<'_> {
         self.store(frame.node, made).map(Next::Leave)
     }
 
-    #[inline(always)]
+    #[cfg_attr(forced, inline(always))]
     fn store(&mut self, node: u16, cell: Entry) -> Result<u16, Stop> {
         let number = self.used;
         let place = self.cells.get_mut(number);
@@ -281,7 +281,7 @@ impl Plain<'_> {
         Ok(number as u16)
     }
 
-    #[inline(always)]
+    #[cfg_attr(forced, inline(always))]
     fn pair(&self, node: u16, cell: u16) -> Result<(u16, u16), Stop> {
         let entry = self.cells[usize::from(cell)];
         match entry[0] {
@@ -290,7 +290,7 @@ impl Plain<'_> {
         }
     }
 
-    #[inline(always)]
+    #[cfg_attr(forced, inline(always))]
     fn branch(&mut self, node: u16, kind: u8, input: u16) -> Result<Next, Stop> {
         let (sum, rest) = self.pair(node, input)?;
         let (left, right) = operands(self.nodes[usize::from(node)]);

@@ -1,7 +1,6 @@
 -- What RUN's result says of the published meaning: of the term that the node table unfolds to, on the unit.
 -- Assumes nothing.
 use Prim.Native.Nat.{ℕ, _+_, _*_, _-_}
-use mathlib.Core.Bool.{Bool}
 use mathlib.Core.List.{List}
 use lib.ListN.{length}
 use lib.Dec.{ltb}

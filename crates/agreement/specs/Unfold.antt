@@ -8,7 +8,7 @@ use Rattle.simplicity.specs.Values as values
 use Rattle.simplicity.specs.Terms.{Term, iden, unit, injl, injr, take, drop, comp, case, pair, assertl, assertr, fail, witness, scribe, jet}
 use Rattle.book.specs.Tree.{typeOf, valueOf}
 use Rattle.named.specs.Combinators.{IDEN, UNIT, INJL, INJR, TAKE, DROP, COMP, CASE, PAIR, ASSERTL, ASSERTR, FAIL, WITNESS, SCRIBE, JET}
-use Rattle.cells.specs.Entries.{kindAt, leftAt, rightAt}
+use Rattle.cells.specs.Entries.{kindAt}
 use Rattle.nodes.specs.Given.{Given}
 use Rattle.cells.specs.Cells.{shapeAt}
 use Rattle.machine.specs.Run.{leftOf, rightOf}

@@ -6,7 +6,6 @@ use mathlib.Core.Bool.{Bool, true, false}
 use Prim.Native.Nat.{ℕ, _+_, _*_, _-_, _≤_, _<_}
 use native.Mathlib.Omega.{arith}
 use lib.ListN.{length, getD}
-use lib.Dec.{ltb}
 use borrow.Author.Tests.{lt-ltb, le-ltb}
 use Rattle.laws.specs.Table.{Rest}
 use Rattle.simplicity.specs.Outcomes.{Outcome}
@@ -17,11 +16,11 @@ use Rattle.cells.specs.declared.table.Kept.{Kept}
 use Rattle.cells.specs.declared.jets.Jetted.{Jetted}
 use Rattle.cells.specs.declared.jets.Jetted.the-variants as jetteds
 use Rattle.cells.specs.Entries.{leftAt, rightAt}
-use Rattle.nodes.specs.Given.{Given, typed, cellOf, supplies}
-use Rattle.cells.specs.Cells.{World, world, refuses, Out, got, halt, deliver}
-use Rattle.cells.specs.Keeping.{leads, jetted, Delivers}
+use Rattle.nodes.specs.Given.{Given, typed, supplies}
+use Rattle.cells.specs.Cells.{World, refuses, Out, got, halt, deliver}
+use Rattle.cells.specs.Keeping.{jetted, Delivers}
 use Rattle.machine.specs.Run.{DEEP, witnessed}
-use Rattle.machine.specs.Machine.{Stack, frames, waiting, resume, endOf, goingOn, turns, Turned, Downed, Handed, Answers, Backs, Sound}
+use Rattle.machine.specs.Machine.{Stack, resume, endOf, goingOn, turns, Turned, Downed, Handed, Answers, Backs, Sound}
 use Rattle.machine.proofs.Turns.{back-down, back-hand, handed-as}
 use Rattle.machine.proofs.Ways.{frame-skip, frame-second, frame-beside, frame-lefted, frame-righted, frame-paired, weight-second, weight-beside}
 use Rattle.cells.specs.Cells.{store}

@@ -5,7 +5,7 @@ use mathlib.Core.List.{List, [], _∷_}
 use Prim.Native.Nat.{ℕ, zero, suc, _+_, _<_, _≤_}
 use native.Mathlib.Numerals.{add-one}
 use native.Mathlib.Omega.{arith}
-use lib.ListN.{length, getD, set}
+use lib.ListN.{set}
 use lib.Seq.{getD-set-same, getD-set-other}
 use Rattle.nodes.specs.Given.{Given}
 use Rattle.cells.specs.Cells.{End, Out, halt, add, bind}

@@ -1,22 +1,21 @@
 -- What a turn of the machine keeps, way by way: each way through the code cites one law.
 -- Assumes nothing.
 use mathlib.Core.Path.{_≡_, refl, sym, ap, _∙_}
-use mathlib.Core.Logic.{_⊎_, ⊎-elim}
+use mathlib.Core.Logic.{_⊎_}
 use mathlib.Core.List.{List, [], _∷_}
-use mathlib.Core.Bool.{Bool, true, false}
+use mathlib.Core.Bool.{true, false}
 use Prim.Native.Nat.{ℕ, zero, suc, _+_, _*_, _-_, _≤_, _<_}
 use native.Mathlib.Omega.{arith}
 use native.Mathlib.Numerals.{add-one}
 use lib.ListN.{length, getD}
-use lib.Dec.{eqb}
 use borrow.Author.Tests.{ne-eqb}
 use Rattle.machine.specs.declared.State.{State}
 use Rattle.cells.specs.declared.table.Kept.{Kept}
 use Rattle.nodes.specs.Given.{Given}
-use Rattle.cells.specs.Cells.{World, world, End, Out, got, halt, add, bind, store}
+use Rattle.cells.specs.Cells.{World, world, Out, got, halt, add, bind, store}
 use Rattle.cells.specs.Keeping.{leads, Fresh, Keeps}
 use Rattle.machine.specs.Run.{DEEP, Runs, handOn, byKind, run}
-use Rattle.machine.specs.Machine.{Frame, skip, second, beside, lefted, righted, paired, frame, holding, apply, resume, Stack, stack, Deep, frames, waiting, endOf, overAt, goingOn, future, weight, weights, turns, Turned, Downed, Handed, Answers, Backs, Entered, Stopped}
+use Rattle.machine.specs.Machine.{Frame, skip, second, beside, lefted, righted, paired, frame, holding, apply, resume, Stack, Deep, frames, waiting, endOf, overAt, goingOn, future, weight, weights, turns, Turned, Downed, Handed, Answers, Backs, Entered, Stopped}
 use Rattle.cells.proofs.Outs.{add-none, add-add, bind-got}
 use Rattle.machine.proofs.Frames.{resume-add, resume-halt, pushed, frames-put, waiting-put}
 

@@ -1,6 +1,6 @@
 -- What each kind of node comes to, and each frame: as the machine goes about it.
 -- Assumes nothing.
-use mathlib.Core.Path.{_≡_, refl, sym, ap, _∙_}
+use mathlib.Core.Path.{_≡_, refl, sym, ap}
 use mathlib.Core.Logic.{_⊎_, inl, inr, ⊎-elim}
 use mathlib.Core.List.{List, [], _∷_}
 use Prim.Native.Nat.{ℕ, _+_, _≤_, _<_}
@@ -11,9 +11,9 @@ use Rattle.simplicity.specs.Jets.{jetOn}
 use Rattle.book.specs.declared.fault.Fault.the-variants.{Stuck}
 use Rattle.cells.specs.Entries.{kindAt, leftAt, rightAt}
 use Rattle.nodes.specs.Given.{Given, cellOf}
-use Rattle.cells.specs.Cells.{shapeAt, World, world, hold, fails, refuses, Out, got, halt, bind, store, deliver}
+use Rattle.cells.specs.Cells.{shapeAt, World, world, hold, fails, refuses, got, halt, bind, store, deliver}
 use Rattle.machine.specs.Run.{Runs, handOn, witnessed, nodeKinds, byKind}
-use Rattle.machine.specs.Machine.{Frame, skip, second, beside, lefted, righted, paired, frame, holding, apply, weight, Branches}
+use Rattle.machine.specs.Machine.{skip, second, beside, lefted, righted, paired, frame, holding, apply, weight, Branches}
 use Rattle.cells.proofs.Outs.{add-none}
 use Rattle.cells.proofs.Shapes.{left-shape, right-shape, pair-shape, no-sum, no-pair}
 

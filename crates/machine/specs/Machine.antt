@@ -5,12 +5,12 @@ use mathlib.Core.Path.{_≡_}
 use mathlib.Core.Logic.{_⊎_}
 use mathlib.Core.List.{List, [], _∷_}
 use lib.ListN.{length, getD}
-use Rattle.laws.specs.Table.{pick, Case, at, choose}
+use Rattle.laws.specs.Table.{pick, at, choose}
 use lib.Dec.{eqb}
 use Rattle.book.specs.Valid.{Valid}
 use Rattle.book.specs.declared.fault.Fault.the-variants as faults
 use Rattle.nodes.specs.Given.{Text, Given, cellOf}
-use Rattle.cells.specs.Cells.{leftCell, rightCell, pairCell, World, world, hold, newest, letGo, keeping, End, fails, refuses, Out, got, halt, add, bind, store}
+use Rattle.cells.specs.Cells.{leftCell, rightCell, pairCell, World, world, newest, letGo, keeping, End, fails, refuses, Out, got, halt, add, bind, store}
 use Rattle.machine.specs.Run.{DEEP, Runs, rightOf, run}
 use Rattle.cells.specs.Keeping.{leads}
 use Rattle.cells.specs.declared.table.Kept.{Kept}

@@ -3,9 +3,9 @@
 use mathlib.Core.Path.{_≡_, refl, sym, ap, _∙_}
 use mathlib.Core.List.{List, [], _∷_}
 use mathlib.Core.Bool.{Bool, true, false}
-use Prim.Native.Nat.{ℕ, zero, suc, _+_, _-_, _≤_, _<_}
+use Prim.Native.Nat.{ℕ, _-_, _≤_, _<_}
 use native.Mathlib.Omega.{arith}
-use lib.ListN.{length, replicate, length-replicate}
+use lib.ListN.{length, length-replicate}
 use lib.Dec.{eqb, ltb}
 use borrow.Author.Tests.{ne-eqb, eqb-false, ltb-false}
 use Rattle.laws.specs.Table.{pick, Rest, at, rest}
@@ -27,10 +27,10 @@ use Rattle.nodes.specs.declared.check.Verdict.{Verdict}
 use Rattle.nodes.specs.declared.check.Verdict.the-variants as verdicts
 use Rattle.nodes.specs.Given.{Text, text, Given, given}
 use Rattle.nodes.specs.Nodes.{Judged, wellFormed, badAt, judge, verdictOf}
-use Rattle.cells.specs.Cells.{World, world, End, fails, refuses, Out, got, halt, add, bind}
+use Rattle.cells.specs.Cells.{world, fails, refuses, Out, got, halt, add, bind}
 use Rattle.cells.specs.Keeping.{leads}
 use Rattle.machine.specs.Run.{DEEP, run}
-use Rattle.run.specs.Whole.{seeds, ended, Result, valued, failing, refused, resultOf, afterCheck, afterRead, resulting, answerOf, cellsOf, runOf, tableOf}
+use Rattle.run.specs.Whole.{seeds, ended, resultOf, afterRead, resulting, answerOf, cellsOf, runOf, tableOf}
 use Rattle.machine.specs.Machine.{Stack, frames, waiting, resume, endOf, overAt, goingOn, future, Stopped}
 use Rattle.run.specs.Calls.{Started, Answered}
 use Rattle.cells.proofs.Outs.{bind-got}

@@ -1,11 +1,10 @@
 -- RUN: its answer and every byte of its cells, for every list of bytes and every number.
 -- Assumes nothing.
 use Prim.Native.Nat.{ℕ, zero, suc, _-_}
-use mathlib.Core.List.{List, []}
+use mathlib.Core.List.{List, [], _∷_}
 use lib.ListN.{replicate}
 use lib.Dec.{eqb}
-use Rattle.laws.specs.Table.{pick, Case, at, choose}
-use mathlib.Core.List.{_∷_}
+use Rattle.laws.specs.Table.{pick, at, choose}
 use Rattle.book.specs.Format.{VALUE, VU, VL, VR}
 use Rattle.book.specs.Index.{kind, mark, field}
 use Rattle.book.specs.Read.{readOf, indexOf}

@@ -1,12 +1,11 @@
 -- The jets: what they make of a value, and their types.
 -- Assumes nothing.
 use Prim.Native.Nat.{ℕ, zero, suc, _+_, _*_, _%_, _^_}
-use mathlib.Core.Bool.{Bool, true, false}
-use mathlib.Core.List.{List, [], _∷_}
+use mathlib.Core.List.{[], _∷_}
 use lib.Dec.{eqb, ltb}
-use Rattle.laws.specs.Table.{pick, Case, at, choose}
+use Rattle.laws.specs.Table.{pick, at, choose}
 use Rattle.simplicity.specs.Types.{Ty, one, product, two, power, wordOf, fewer}
-use Rattle.simplicity.specs.Values.{Value, unit, pair, bit, word, Shape, ifUnit, ifSum, ifPair}
+use Rattle.simplicity.specs.Values.{unit, pair, bit, word, Shape, ifUnit, ifSum, ifPair}
 use Rattle.simplicity.specs.Outcomes.{Outcome, value, failed, stuck, missing}
 
 -- what is made of the number that x is as a word of 2 ^ k bits, its shapes as `look` says; stuck where it is no such word
