@@ -25,7 +25,7 @@ leads-cell n t hs q f = leads-cell′ (q .full) n t hs q f refl
 
 -- one cell: nothing more is stored, or there is room for it, or there is none
 module _ (t : List ℕ) (p : Kept) (k a b : ℕ) where
-  pub keep-shut : p .full ≡ true → Keeps t p (λ n. store n k a b) p t
+  pub keep-shut : p .full ≡ true → Keeps t p (λ n. store n k a b) (record { cell = p .cell; used = p .used; full = true }) t
   unfolding leads bind
   keep-shut e = record { same = λ n hs. rw e }
 

@@ -117,42 +117,38 @@ halves t j x y words.Not l f d g = d .same _
 
 -- the word at cell x, whose kind is k: a pair of words, or none, or a bit
 module _ {t : List ℕ} {x k : ℕ} (kind : k ≡ kindAt t x) where
-  pub word-pair : {h l r : Word} {a b : ℕ} (j : ℕ) → (j ≡ 0 → ⊥) → k ≡ pairCell → a ≡ leftAt t x → b ≡ rightAt t x → Worded t (j - 1) a h → Worded t (j - 1) b l → (r ≡ joined (j - 1) h l) × Under (2 ^ (2 ^ (j - 1 + 1))) r → Worded t j x r
+  pub word-pair : {h l r : Word} {a b : ℕ} (j : ℕ) → k ≡ pairCell → a ≡ leftAt t x → b ≡ rightAt t x → Worded t j a h → Worded t j b l → (r ≡ joined j h l) × Under (2 ^ (2 ^ (j + 1))) r → Worded t (suc j) x r
   unfolding onWord
-  word-pair zero o e u v d g q = absurd (o refl)
-  word-pair {h} {l} {r} {a} {b} (suc j) o e u v d g q =
-      let z : suc j - 1 ≡ j = omega arith in
-      let y : suc j - 1 + 1 ≡ suc j = omega arith in
+  word-pair {h} {l} {r} {a} {b} j e u v d g q =
       record {
-        same = λ f. rw (pair-shape t x (sym kind ∙ e), q .0, z, ← u, ← v) (halves t j a b h l f (rw z at d) (rw z at g));
-        under = rw y at (q .1);
+        same = λ f. rw (pair-shape t x (sym kind ∙ e), q .0, ← u, ← v) (halves t j a b h l f d g);
+        under = rw (add-one j) at (q .1);
       }
 
-  pub word-none : (j : ℕ) → (j ≡ 0 → ⊥) → (k ≡ pairCell → ⊥) → Worded t j x words.Not
+  pub word-none : (j : ℕ) → (k ≡ pairCell → ⊥) → Worded t (suc j) x words.Not
   unfolding onWord
-  word-none zero o h = absurd (o refl)
-  word-none (suc j) o h = record { same = λ f. no-pair t x stuck _ (λ e. h (kind ∙ e)); under = tt }
+  word-none j h = record { same = λ f. no-pair t x stuck _ (λ e. h (kind ∙ e)); under = tt }
 
-pub word-bit : {t : List ℕ} {x j : ℕ} {r : Word} → j ≡ 0 → Worded t 0 x r → Worded t j x r
-word-bit e d = rw e d
+-- a word of some width, which is j
+pub word-wide : {t : List ℕ} {x j i : ℕ} {r : Word} → j ≡ i → Worded t i x r → Worded t j x r
+word-wide e d = rw e d
 
--- a word has some number
 -- the cells of a word: a bit's, or those of its halves and then the pair's
 module _ {t t₁ : List ℕ} {p q : Kept} (v : ℕ) where
-  pub keep-bits : (k : ℕ) → k ≡ 0 → Keeps t p (λ n. storeValue n (bit (eqb (v % 2) 1))) q t₁ → Keeps t p (λ n. storeValue n (word k v)) q t₁
+  pub keep-bits : Keeps t p (λ n. storeValue n (bit (eqb (v % 2) 1))) q t₁ → Keeps t p (λ n. storeValue n (word 0 v)) q t₁
   unfolding word
-  keep-bits k e d = rw e d
+  keep-bits d = d
 
-  pub keep-halves : {t₂ t₃ : List ℕ} {r s : Kept} {a b : ℕ} (k : ℕ) → (k ≡ 0 → ⊥) → a ≡ v / 2 ^ (2 ^ (k - 1)) → b ≡ v % 2 ^ (2 ^ (k - 1)) → Keeps t p (λ n. storeValue n (word (k - 1) a)) q t₁ → Keeps t₁ q (λ n. storeValue n (word (k - 1) b)) r t₂ → Keeps t₂ r (λ n. store n pairCell (q .cell) (r .cell)) s t₃ → Keeps t p (λ n. storeValue n (word k v)) s t₃
+  pub keep-halves : {t₂ t₃ : List ℕ} {r s : Kept} (k : ℕ) → Keeps t p (λ n. storeValue n (word k (v / 2 ^ (2 ^ k)))) q t₁ → Keeps t₁ q (λ n. storeValue n (word k (v % 2 ^ (2 ^ k)))) r t₂ → Keeps t₂ r (λ n. store n pairCell (q .cell) (r .cell)) s t₃ → Keeps t p (λ n. storeValue n (word (suc k) v)) s t₃
   unfolding word
-  keep-halves zero o h l d f g = absurd (o refl)
-  keep-halves (suc k) o h l d f g =
-      let z : suc k - 1 ≡ k = omega arith in
-      keep-pair (word k (v / 2 ^ (2 ^ k))) (word k (v % 2 ^ (2 ^ k))) (rw (h, z) at d) (rw (l, z) at f) g
+  keep-halves k d f g = keep-pair (word k (v / 2 ^ (2 ^ k))) (word k (v % 2 ^ (2 ^ k))) d f g
 
--- the widths of halves are three
-pub third-width : (k : ℕ) → k < 3 → (k ≡ 0 → ⊥) → (k ≡ 1 → ⊥) → k ≡ 2
-third-width k l a b = omega arith
+  pub keep-wide : {k : ℕ} (i : ℕ) → k ≡ i → Keeps t p (λ n. storeValue n (word i v)) q t₁ → Keeps t p (λ n. storeValue n (word k v)) q t₁
+  keep-wide i e d = rw e d
+
+-- the widths are four
+pub fourth-width : (k : ℕ) → k ≤ 3 → (k ≡ 0 → ⊥) → (k ≡ 1 → ⊥) → (k ≡ 2 → ⊥) → k ≡ 3
+fourth-width k l a b d = omega arith
 
 -- the two words in the pair at cell x, whose kind is k
 module _ {t : List ℕ} {x k : ℕ} (j : ℕ) (kind : k ≡ kindAt t x) where

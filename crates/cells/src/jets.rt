@@ -86,20 +86,51 @@ fn join(k: usize, high: Word, low: Word) -> Word
     }
 }
 
+// Words of two, four and eight bits: each width has its own function, as calls to oneself are not inlined.
+fn two_bits_at(cells: &[u8], x: u16) -> Word
+    ensures { λ r. ⌜ Worded (now (cells .entry)) 1 x r ⌝ }
+{
+    if kind_at(cells, x) != PAIR {
+        return Word::Not;
+    }
+    let high = bit_at(cells, left_at(cells, x));
+    let low = bit_at(cells, right_at(cells, x));
+    join(0, high, low)
+}
+
+fn four_bits_at(cells: &[u8], x: u16) -> Word
+    ensures { λ r. ⌜ Worded (now (cells .entry)) 2 x r ⌝ }
+{
+    if kind_at(cells, x) != PAIR {
+        return Word::Not;
+    }
+    let high = two_bits_at(cells, left_at(cells, x));
+    let low = two_bits_at(cells, right_at(cells, x));
+    join(1, high, low)
+}
+
+fn byte_at(cells: &[u8], x: u16) -> Word
+    ensures { λ r. ⌜ Worded (now (cells .entry)) 3 x r ⌝ }
+{
+    if kind_at(cells, x) != PAIR {
+        return Word::Not;
+    }
+    let high = four_bits_at(cells, left_at(cells, x));
+    let low = four_bits_at(cells, right_at(cells, x));
+    join(2, high, low)
+}
+
 // The word of 2 ^ k bits at cell x.
 fn word_at(cells: &[u8], x: u16, k: usize) -> Word
     requires { ⌜ k ≤ 3 ⌝ }
     ensures { λ r. ⌜ Worded (now (cells .entry)) k x r ⌝ }
 {
-    if k == 0 {
-        return bit_at(cells, x);
+    match k {
+        0 => bit_at(cells, x),
+        1 => two_bits_at(cells, x),
+        2 => four_bits_at(cells, x),
+        _ => byte_at(cells, x),
     }
-    if kind_at(cells, x) != PAIR {
-        return Word::Not;
-    }
-    let high = word_at(cells, left_at(cells, x), k - 1);
-    let low = word_at(cells, right_at(cells, x), k - 1);
-    join(k - 1, high, low)
 }
 
 // The two words of 2 ^ k bits in the pair at cell x.
@@ -130,27 +161,35 @@ fn keep_bit(cells: &mut [u8], p: Kept, set: bool) -> Kept
     keep(cells, unit, LEFT, unit.cell, 0)
 }
 
-// The halves of a number, of 2 ^ k bits each. Each width is written out, so that no step divides by a variable.
-fn high_half(v: u8, k: usize) -> u8
-    requires { ⌜ k < 3 ⌝ }
-    ensures { λ r. ⌜ r ≡ v / 2 ^ (2 ^ k) ⌝ }
+// The cells of the number v as a word of one, two, four and eight bits.
+fn keep_one_bit(cells: &mut [u8], p: Kept, v: u8) -> Kept
+    ensures { λ q. ⌜ Keeps (now (cells .entry)) p (λ n. storeValue n (word 0 v)) q (now (cells .exit)) ⌝ }
 {
-    match k {
-        0 => v / 2,
-        1 => v / 4,
-        _ => v / 16,
-    }
+    keep_bit(cells, p, v % 2 == 1)
 }
 
-fn low_half(v: u8, k: usize) -> u8
-    requires { ⌜ k < 3 ⌝ }
-    ensures { λ r. ⌜ r ≡ v % 2 ^ (2 ^ k) ⌝ }
+fn keep_two_bits(cells: &mut [u8], p: Kept, v: u8) -> Kept
+    ensures { λ q. ⌜ Keeps (now (cells .entry)) p (λ n. storeValue n (word 1 v)) q (now (cells .exit)) ⌝ }
 {
-    match k {
-        0 => v % 2,
-        1 => v % 4,
-        _ => v % 16,
-    }
+    let high = keep_one_bit(cells, p, v / 2);
+    let low = keep_one_bit(cells, high, v % 2);
+    keep(cells, low, PAIR, high.cell, low.cell)
+}
+
+fn keep_four_bits(cells: &mut [u8], p: Kept, v: u8) -> Kept
+    ensures { λ q. ⌜ Keeps (now (cells .entry)) p (λ n. storeValue n (word 2 v)) q (now (cells .exit)) ⌝ }
+{
+    let high = keep_two_bits(cells, p, v / 4);
+    let low = keep_two_bits(cells, high, v % 4);
+    keep(cells, low, PAIR, high.cell, low.cell)
+}
+
+fn keep_byte(cells: &mut [u8], p: Kept, v: u8) -> Kept
+    ensures { λ q. ⌜ Keeps (now (cells .entry)) p (λ n. storeValue n (word 3 v)) q (now (cells .exit)) ⌝ }
+{
+    let high = keep_four_bits(cells, p, v / 16);
+    let low = keep_four_bits(cells, high, v % 16);
+    keep(cells, low, PAIR, high.cell, low.cell)
 }
 
 // Stores the cells of the number v as a word of 2 ^ k bits.
@@ -158,12 +197,12 @@ fn keep_word(cells: &mut [u8], p: Kept, k: usize, v: u8) -> Kept
     requires { ⌜ k ≤ 3 ⌝ }
     ensures { λ q. ⌜ Keeps (now (cells .entry)) p (λ n. storeValue n (word k v)) q (now (cells .exit)) ⌝ }
 {
-    if k == 0 {
-        return keep_bit(cells, p, v % 2 == 1);
+    match k {
+        0 => keep_one_bit(cells, p, v),
+        1 => keep_two_bits(cells, p, v),
+        2 => keep_four_bits(cells, p, v),
+        _ => keep_byte(cells, p, v),
     }
-    let high = keep_word(cells, p, k - 1, high_half(v, k - 1));
-    let low = keep_word(cells, high, k - 1, low_half(v, k - 1));
-    keep(cells, low, PAIR, high.cell, low.cell)
 }
 
 // The arguments of jets 0 to 2 are words of 2 ^ k bits: the jet's width over the number of its arguments.

@@ -77,7 +77,11 @@ pub fn keep(cells: &mut [u8], p: Kept, kind: u8, a: u16, b: u16) -> Kept
     ensures { λ q. ⌜ Keeps (now (cells .entry)) p (λ n. store n kind a b) q (now (cells .exit)) ⌝ }
 {
     if p.full {
-        return p;
+        return Kept {
+            cell: p.cell,
+            used: p.used,
+            full: true,
+        };
     }
     let at = 5 * (p.used as usize);
     if p.used < 65535 {
