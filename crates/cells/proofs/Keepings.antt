@@ -2,14 +2,14 @@
 -- Assumes nothing.
 use Prim.Native.Nat.{ℕ, _+_, _≤_, _<_}
 use mathlib.Core.Bool.{Bool, true, false}
-use mathlib.Core.Path.{_≡_, refl, sym, ap, _∙_}
+use mathlib.Core.Path.{_≡_, refl, ap, _∙_}
 use mathlib.Core.List.{List}
 use lib.ListN.{length}
 use borrow.Author.Tests.{lt-ltb, le-ltb}
 use Rattle.simplicity.specs.Values.{Value, unit, left, right, pair, bit}
 use Rattle.named.specs.Cut.{room}
 use Rattle.cells.specs.Entries.{put}
-use Rattle.cells.specs.Cells.{World, Out, got, halt, add, bind, leftCell, rightCell, pairCell, unitCell, store, storeValue}
+use Rattle.cells.specs.Cells.{World, Out, bind, leftCell, rightCell, pairCell, unitCell, store, storeValue}
 use Rattle.cells.specs.Keeping.{leads, Keeps}
 use Rattle.cells.specs.declared.table.Kept.{Kept}
 use Rattle.cells.proofs.Outs.{add-none, bind-bind}

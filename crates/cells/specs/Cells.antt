@@ -1,11 +1,10 @@
 -- The cells of a run: how they are read and stored, and how a run goes on or halts.
 -- Assumes nothing.
-use Prim.Native.Nat.{ℕ, zero, suc, _+_}
-use mathlib.Core.Bool.{Bool}
+use Prim.Native.Nat.{ℕ, _+_}
 use mathlib.Core.List.{List, [], _∷_}
 use lib.ListN.{length}
 use lib.Dec.{ltb}
-use Rattle.laws.specs.Table.{pick, Case, at, choose}
+use Rattle.laws.specs.Table.{pick, at, choose}
 use Rattle.simplicity.specs.Values.{Value, unit, left, right, pair, Shape, isNothing, isUnit, isLeft, isRight, isPair}
 use Rattle.simplicity.specs.Outcomes.{Outcome, value, failed, stuck, missing}
 use Rattle.book.specs.declared.fault.Fault.{Fault}

@@ -5,7 +5,7 @@ use mathlib.Core.Bool.{Bool, true, false}
 use mathlib.Core.List.{List, [], _∷_}
 use lib.ListN.{length}
 use lib.Dec.{eqb, ltb}
-use Rattle.laws.specs.Table.{pick, both, Case, at, choose}
+use Rattle.laws.specs.Table.{pick, both, at, choose}
 use Rattle.book.specs.Format.{TYPE, VALUE}
 use Rattle.named.specs.Combinators.{IDEN, UNIT, INJL, INJR, TAKE, DROP, COMP, CASE, PAIR, ASSERTL, ASSERTR, FAIL, WITNESS, SCRIBE, JET}
 use Rattle.cells.specs.Entries.{kindAt, leftAt, rightAt}
