@@ -1,0 +1,3 @@
+pub mod Shapes
+pub mod Views
+pub mod Wholes

@@ -1,0 +1,39 @@
+-- What the parts of the comparison promise: a type's record, or none.
+-- Assumes nothing.
+use Prim.Native.Nat.{ℕ, suc, _≤_}
+use mathlib.Core.Bool.{Bool, true}
+use mathlib.Core.List.{List, [], _∷_}
+use mathlib.Core.Option.{Option, some, none}
+use mathlib.Core.Path.{_≡_}
+use lib.Dec.{T, eqb}
+use Rattle.laws.specs.Table.{pick, among}
+use Rattle.array.specs.Path.{Side, onLeft, onRight}
+use Rattle.simplicity.specs.Types.{Ty}
+use Rattle.book.specs.Format.{TYPE, TS, TP, powerIn}
+use Rattle.book.specs.Stands.{Stands}
+use Rattle.book.specs.Tree.{typeOf}
+use Rattle.shapes.specs.Shapes.{Sort, sums, products, sideOf}
+
+-- the number of no record
+abbrev pub NONE : ℕ
+NONE = 65535
+
+-- record x's type is o, or there is none and x is no record
+pub data Gives (b i : List ℕ) (o : Option Ty) (x : ℕ) : Type 0 where
+  nowhere : x ≡ NONE → o ≡ none → Gives b i o x
+  record-of : Stands b i x TYPE → o ≡ some (typeOf b i x) → Gives b i o x
+
+-- what a mark's types are made of
+abbrev pub isSort : ℕ → Bool
+isSort m = among (TS ∷ TP ∷ []) m
+
+abbrev pub sortOf : ℕ → Sort
+sortOf m = pick (eqb m TS) sums products
+
+-- the side at field k
+abbrev pub sideIs : ℕ → ℕ → Ty → Option Ty
+sideIs m k t = sideOf (sortOf m) (pick (eqb k 0) onLeft onRight) t
+
+-- a list's bound
+abbrev pub Bound : ℕ → Type 0
+Bound n = T (powerIn 2 256 n)
