@@ -1,0 +1,115 @@
+-- What the code holds of patterns beside types: the pairs that are known to fit, the names that were met, the row of live bindings.
+-- Assumes nothing.
+use Prim.Native.Nat.{ℕ, zero, suc, _+_, _*_, _/_, _%_, _≤_, _<_}
+use mathlib.Core.Bool.{Bool, true, false}
+use mathlib.Core.List.{List, [], _∷_}
+use mathlib.Core.Logic.{_⊎_}
+use mathlib.Core.Option.{Option, some, none}
+use mathlib.Core.Path.{_≡_}
+use lib.Dec.{eqb}
+use lib.ListN.{length, getD}
+use Rattle.laws.specs.Table.{pick}
+use Rattle.array.specs.Path.{Side}
+use Rattle.simplicity.specs.Types.{Ty}
+use Rattle.book.specs.Format.{TYPE, PATTERN, FUNCTION}
+use Rattle.book.specs.Stands.{Stands}
+use Rattle.book.specs.Tree.{Pat, typeOf, patternOf, funOf}
+use Rattle.pattern.specs.Find.{find}
+use Rattle.pattern.specs.Seeks.{Memo}
+use Rattle.shapes.specs.Shapes.{products, leads}
+use Rattle.shapes.specs.Views.{NONE}
+use Rattle.shapes.specs.Binders.{fits, names, twice, Binding, binding, rootScope, scopeIn, typeFor}
+use Rattle.shapes.specs.declared.binder.Noted.{Noted}
+use Rattle.shapes.specs.declared.binder.Noted.the-variants as notes
+
+-- 2 ^ j, for j below 8; bit j of a byte; whether the pair of pattern p and type t is marked
+abbrev pub powerOf : ℕ → ℕ
+powerOf j = getD (1 ∷ 2 ∷ 4 ∷ 8 ∷ 16 ∷ 32 ∷ 64 ∷ 128 ∷ []) j 0
+
+unfoldable pub bitOf : ℕ → ℕ → Bool
+bitOf v j = eqb (v / powerOf j % 2) 1
+
+unfoldable pub marked : List ℕ → ℕ → ℕ → Bool
+marked memo p t = bitOf (getD memo (p * 512 + t / 8) 0) (t % 8)
+
+-- each pair that is marked fits
+pub record Known (b i memo : List ℕ) : Type 0 where
+  pub size : length memo ≡ 2097152
+  pub sound : (p t : ℕ) → t < 4096 → marked memo p t ≡ true → fits (patternOf b i p) (typeOf b i t) ≡ true
+
+-- no pair but (p, t) is marked newly
+pub record Marks (memo : List ℕ) (p t : ℕ) (memo′ : List ℕ) : Type 0 where
+  pub kept : length memo′ ≡ length memo
+  pub only : (q s : ℕ) → s < 4096 → marked memo′ q s ≡ true → (marked memo q s ≡ true) ⊎ ((q ≡ p) × (s ≡ t))
+
+-- v was found to be f, and the pairs that are marked then fit
+pub record Fitted (b i : List ℕ) (v f : Bool) (memo′ : List ℕ) : Type 0 where
+  pub known : Known b i memo′
+  pub is : f ≡ v
+
+-- where x stands in a pattern that fits a type: nowhere, or at a place whose type is record s
+pub data Seen (b i : List ℕ) (x : ℕ) (p : Pat) (t : Ty) (s : ℕ) : Type 0 where
+  absent : s ≡ NONE → find x p ≡ none → Seen b i x p t s
+  present : (ks : List Side) → Stands b i s TYPE → find x p ≡ some ks → leads products ks t ≡ some (typeOf b i s) → Seen b i x p t s
+
+-- and the row of what was sought in vain that the search left
+pub record Sights (b i : List ℕ) (x : ℕ) (p : Pat) (t : Ty) (s : ℕ) (ms : List ℕ) : Type 0 where
+  pub memo : Memo b i x ms
+  pub seen : Seen b i x p t s
+
+-- a row with a 1 for each name that was met, else 0
+pub record Met (ns : List ℕ) : Type 0 where
+  pub size : length ns ≡ 65536
+  pub ones : (x : ℕ) → getD ns x 0 ≤ 1
+
+-- a row with an entry for each record there may be, 1 only where the pattern has no names
+pub record Nameless (b i ms : List ℕ) : Type 0 where
+  pub size : length ms ≡ 4096
+  pub sound : (r : ℕ) → getD ms r 0 ≡ 1 → names (patternOf b i r) ≡ []
+
+-- how often x stands in a row of names
+unfoldable pub times : ℕ → List ℕ → ℕ
+times x [] = 0
+times x (y ∷ ys) = pick (eqb y x) 1 0 + times x ys
+
+-- the names xs were met on top of those of ns: one stands there twice, or none does, and ns′ has them all
+unfoldable pub Tally : List ℕ → List ℕ → Noted → List ℕ → Type 0
+Tally xs ns notes.Twice ns′ = (x : ℕ) × (2 ≤ getD ns x 0 + times x xs)
+Tally xs ns notes.Named ns′ = (Met ns′) × ((x : ℕ) → getD ns′ x 0 ≡ getD ns x 0 + times x xs)
+Tally xs ns notes.Unnamed ns′ = (xs ≡ []) × (ns′ ≡ ns)
+
+-- one name was met
+pub record Notes (x : ℕ) (ns : List ℕ) (s : Noted) (ns′ : List ℕ) : Type 0 where
+  pub kept : length ns′ ≡ length ns
+  pub tally : Tally (x ∷ []) ns s ns′
+
+pub record Tallies (b i : List ℕ) (xs ns : List ℕ) (s : Noted) (ns′ ms′ : List ℕ) : Type 0 where
+  pub kept : length ns′ ≡ length ns
+  pub nameless : Nameless b i ms′
+  pub tally : Tally xs ns s ns′
+
+-- the root binding of a scope whose base is x: a function's parameters, or the input
+abbrev pub baseOf : List ℕ → List ℕ → ℕ → List Binding
+baseOf b i x = pick (eqb x NONE) rootScope (scopeIn (funOf b i x))
+
+-- the scope of n live bindings: entry k is its pattern's record and then its type's
+unfoldable pub scopeOf : List ℕ → List ℕ → List ℕ → ℕ → ℕ → List Binding
+scopeOf b i bs zero base = baseOf b i base
+scopeOf b i bs (suc n) base = binding (patternOf b i (getD bs (2 * n) 0)) (typeOf b i (getD bs (2 * n + 1) 0)) ∷ scopeOf b i bs n base
+
+-- what may be bound: a pattern to a type that it fits
+pub record Binds (b i : List ℕ) (p t : ℕ) : Type 0 where
+  pub pattern : Stands b i p PATTERN
+  pub type : Stands b i t TYPE
+  pub fit : fits (patternOf b i p) (typeOf b i t) ≡ true
+
+-- a row of n live bindings
+pub record Live (b i bs : List ℕ) (n base : ℕ) : Type 0 where
+  pub room : 2 * n ≤ length bs
+  pub each : (j : ℕ) → j < n → Binds b i (getD bs (2 * j) 0) (getD bs (2 * j + 1) 0)
+  pub based : (base ≡ NONE) ⊎ Stands b i base FUNCTION
+
+-- what the live bindings have of the name x: record s's type, or nothing, so that it is for the base to say
+pub data Newest (b i bs : List ℕ) (n base x s : ℕ) : Type 0 where
+  found : Stands b i s TYPE → typeFor x (scopeOf b i bs n base) ≡ some (typeOf b i s) → Newest b i bs n base x s
+  passed : s ≡ NONE → typeFor x (scopeOf b i bs n base) ≡ typeFor x (baseOf b i base) → Newest b i bs n base x s

@@ -1,0 +1,317 @@
+// Patterns beside types. Patterns share their parts, so that a pattern may have more places than could ever be visited: no record is
+// entered again for what is known of it.
+ghost use mathlib.Core.Path.{_≡_};
+ghost use Prim.Native.Nat.{_<_, _≤_};
+ghost use lib.ListN.{length};
+ghost use Rattle.book.specs.Format.{TYPE, PATTERN, FUNCTION, PT};
+ghost use Rattle.book.specs.Index.{mark};
+ghost use Rattle.book.specs.Stands.{Stands};
+ghost use Rattle.book.specs.Tree.{typeOf, patternOf, funOf};
+ghost use Rattle.pattern.specs.Find.{paramsOf};
+ghost use Rattle.pattern.specs.Seeks.{Memo};
+ghost use Rattle.shapes.specs.Views.{Gives};
+ghost use Rattle.shapes.specs.Binders.{fits, names, paramNames, twice, typeFor, scopeIn};
+ghost use Rattle.shapes.specs.Memos.{powerOf, marked, Known, Marks, Fitted, Sights, Met, Nameless, Notes, Tallies, Binds, scopeOf, Live, Newest};
+use book::format::PI;
+use book::format::PT;
+use book::format::TP;
+use book::record::field_at;
+use book::record::mark_at;
+use crate::part::NONE;
+use crate::part::is_unit;
+use crate::part::place;
+
+const POWERS: [u8; 8] = [1, 2, 4, 8, 16, 32, 64, 128];
+
+fn power(j: usize) -> u8
+    requires { ⌜ j < 8 ⌝ }
+    ensures { λ r. ⌜ (r ≡ powerOf j) × (1 ≤ r) ⌝ }
+{
+    POWERS[j]
+}
+
+// Whether a pattern is known to fit a type: a bit for each pair.
+fn known(p: usize, t: usize, memo: &[u8]) -> bool
+    requires { ⌜ (p < 4096) × (t < 4096) × (length (now memo) ≡ 2097152) ⌝ }
+    ensures { λ r. ⌜ r ≡ marked (now (memo .entry)) p t ⌝ }
+{
+    let w = power(t % 8);
+    let v = memo[p * 512 + t / 8];
+    v / w % 2 == 1
+}
+
+fn mark(p: usize, t: usize, memo: &mut [u8])
+    requires { ⌜ (p < 4096) × (t < 4096) × (length (now memo) ≡ 2097152) ⌝ }
+    ensures { λ _. ⌜ Marks (now (memo .entry)) p t (now (memo .exit)) ⌝ }
+{
+    if known(p, t, memo) {
+        return;
+    }
+    let w = power(t % 8);
+    let v = memo[p * 512 + t / 8];
+    memo[p * 512 + t / 8] = v + w;
+}
+
+// Whether a pattern fits a type. What is found to fit is kept for later questions; what does not fit ends them all.
+pub fn fits(book: &[u8], index: &[u16], p: u16, t: u16, memo: &mut [u8]) -> bool
+    requires { ⌜ Stands (now book) (now index) p PATTERN ⌝ ∗ ⌜ Stands (now book) (now index) t TYPE ⌝ ∗ ⌜ Known (now book) (now index) (now memo) ⌝ }
+    ensures { λ f. ⌜ Fitted (now (book .entry)) (now (index .entry)) (fits (patternOf (now (book .entry)) (now (index .entry)) p) (typeOf (now (book .entry)) (now (index .entry)) t)) f (now (memo .exit)) ⌝ }
+{
+    if mark_at(book, index, p) != PT {
+        return true;
+    }
+    if known(p as usize, t as usize, memo) {
+        return true;
+    }
+    if fits_row(book, index, p, t, memo) {
+        mark(p as usize, t as usize, memo);
+        return true;
+    }
+    false
+}
+
+// The same for a row: each element fits the type at its place.
+fn fits_row(book: &[u8], index: &[u16], p: u16, t: u16, memo: &mut [u8]) -> bool
+    requires { ⌜ Stands (now book) (now index) p PATTERN ⌝ ∗ ⌜ mark (now book) (now index) p ≡ PT ⌝ ∗ ⌜ Stands (now book) (now index) t TYPE ⌝ ∗ ⌜ Known (now book) (now index) (now memo) ⌝ }
+    ensures { λ f. ⌜ Fitted (now (book .entry)) (now (index .entry)) (fits (patternOf (now (book .entry)) (now (index .entry)) p) (typeOf (now (book .entry)) (now (index .entry)) t)) f (now (memo .exit)) ⌝ }
+{
+    let n = field_at(book, index, p, 0) as u32;
+    if n == 0 {
+        return is_unit(book, index, t);
+    }
+    let mut k: u32 = 0;
+    while k < n {
+        let part = field_at(book, index, p, 1 + (k as usize));
+        let s = place(book, index, TP, t, n, k);
+        if s == NONE {
+            return false;
+        }
+        if !fits(book, index, part, s, memo) {
+            return false;
+        }
+        k += 1;
+    }
+    true
+}
+
+// What meeting a pattern's names came to: one was met before, or it has names, all new, or it has none.
+pub enum Noted {
+    Twice,
+    Named,
+    Unnamed,
+}
+
+fn note(name: u16, met: &mut [u8]) -> Noted
+    requires { ⌜ Met (now met) ⌝ }
+    ensures { λ s. ⌜ Notes name (now (met .entry)) s (now (met .exit)) ⌝ }
+{
+    if met[name as usize] == 1 {
+        return Noted::Twice;
+    }
+    met[name as usize] = 1;
+    Noted::Named
+}
+
+// Meets the names of a pattern: `nameless` has a 1 for each record that was found to have none. A record with names that is met
+// again leads straight to a name that was met.
+fn note_all(book: &[u8], index: &[u16], p: u16, met: &mut [u8], nameless: &mut [u8]) -> Noted
+    requires { ⌜ Stands (now book) (now index) p PATTERN ⌝ ∗ ⌜ Met (now met) ⌝ ∗ ⌜ Nameless (now book) (now index) (now nameless) ⌝ }
+    ensures { λ s. ⌜ Tallies (now (book .entry)) (now (index .entry)) (names (patternOf (now (book .entry)) (now (index .entry)) p)) (now (met .entry)) s (now (met .exit)) (now (nameless .exit)) ⌝ }
+{
+    if nameless[p as usize] == 1 {
+        return Noted::Unnamed;
+    }
+    let mark = mark_at(book, index, p);
+    if mark == PT {
+        return note_row(book, index, p, met, nameless);
+    }
+    if mark == PI {
+        let name = field_at(book, index, p, 0);
+        return note(name, met);
+    }
+    Noted::Unnamed
+}
+
+// The same for a row: its elements one after another.
+fn note_row(book: &[u8], index: &[u16], p: u16, met: &mut [u8], nameless: &mut [u8]) -> Noted
+    requires { ⌜ Stands (now book) (now index) p PATTERN ⌝ ∗ ⌜ mark (now book) (now index) p ≡ PT ⌝ ∗ ⌜ Met (now met) ⌝ ∗ ⌜ Nameless (now book) (now index) (now nameless) ⌝ }
+    ensures { λ s. ⌜ Tallies (now (book .entry)) (now (index .entry)) (names (patternOf (now (book .entry)) (now (index .entry)) p)) (now (met .entry)) s (now (met .exit)) (now (nameless .exit)) ⌝ }
+{
+    let n = field_at(book, index, p, 0) as usize;
+    let mut any = false;
+    let mut k: usize = 0;
+    while k < n {
+        let part = field_at(book, index, p, 1 + k);
+        match note_all(book, index, part, met, nameless) {
+            Noted::Twice => {
+                return Noted::Twice;
+            }
+            Noted::Named => {
+                any = true;
+            }
+            Noted::Unnamed => {}
+        }
+        k += 1;
+    }
+    if any {
+        return Noted::Named;
+    }
+    nameless[p as usize] = 1;
+    Noted::Unnamed
+}
+
+// Whether a pattern has a name twice.
+pub fn repeats(book: &[u8], index: &[u16], p: u16) -> bool
+    requires { ⌜ Stands (now book) (now index) p PATTERN ⌝ }
+    ensures { λ r. ⌜ r ≡ twice (names (patternOf (now (book .entry)) (now (index .entry)) p)) ⌝ }
+{
+    let mut met = [0u8; 65536];
+    let mut nameless = [0u8; 4096];
+    match note_all(book, index, p, &mut met, &mut nameless) {
+        Noted::Twice => true,
+        Noted::Named => false,
+        Noted::Unnamed => false,
+    }
+}
+
+// Whether a function's parameter list has a name twice.
+pub fn params_repeat(book: &[u8], index: &[u16], f: u16) -> bool
+    requires { ⌜ Stands (now book) (now index) f FUNCTION ⌝ }
+    ensures { λ r. ⌜ r ≡ twice (paramNames (paramsOf (funOf (now (book .entry)) (now (index .entry)) f))) ⌝ }
+{
+    let mut met = [0u8; 65536];
+    let n = field_at(book, index, f, 1) as usize;
+    let mut k: usize = 0;
+    while k < n {
+        let name = field_at(book, index, f, 2 + 2 * k);
+        match note(name, &mut met) {
+            Noted::Twice => {
+                return true;
+            }
+            Noted::Named => {}
+            Noted::Unnamed => {}
+        }
+        k += 1;
+    }
+    false
+}
+
+// The type of a name in a pattern that fits a type, at its first place from the left. `missing` has a 1 for each record in which this
+// name was already sought in vain.
+fn type_in(
+    book: &[u8],
+    index: &[u16],
+    p: u16,
+    t: u16,
+    name: u16,
+    missing: &mut [u8],
+) -> u16
+    requires { ⌜ Binds (now book) (now index) p t ⌝ ∗ ⌜ Memo (now book) (now index) name (now missing) ⌝ }
+    ensures { λ s. ⌜ Sights (now (book .entry)) (now (index .entry)) name (patternOf (now (book .entry)) (now (index .entry)) p) (typeOf (now (book .entry)) (now (index .entry)) t) s (now (missing .exit)) ⌝ }
+{
+    if missing[p as usize] == 1 {
+        return NONE;
+    }
+    let mark = mark_at(book, index, p);
+    if mark == PT {
+        return type_in_row(book, index, p, t, name, missing);
+    }
+    if mark == PI {
+        if field_at(book, index, p, 0) == name {
+            return t;
+        }
+    }
+    NONE
+}
+
+// The same for a row: its elements one after another, each with the type at its place.
+fn type_in_row(
+    book: &[u8],
+    index: &[u16],
+    p: u16,
+    t: u16,
+    name: u16,
+    missing: &mut [u8],
+) -> u16
+    requires { ⌜ Binds (now book) (now index) p t ⌝ ∗ ⌜ mark (now book) (now index) p ≡ PT ⌝ ∗ ⌜ Memo (now book) (now index) name (now missing) ⌝ }
+    ensures { λ s. ⌜ Sights (now (book .entry)) (now (index .entry)) name (patternOf (now (book .entry)) (now (index .entry)) p) (typeOf (now (book .entry)) (now (index .entry)) t) s (now (missing .exit)) ⌝ }
+{
+    let n = field_at(book, index, p, 0) as u32;
+    let mut k: u32 = 0;
+    while k < n {
+        let part = field_at(book, index, p, 1 + (k as usize));
+        let s = place(book, index, TP, t, n, k);
+        let found = type_in(book, index, part, s, name, missing);
+        if found != NONE {
+            return found;
+        }
+        k += 1;
+    }
+    missing[p as usize] = 1;
+    NONE
+}
+
+// The type of a function's first parameter of a name.
+fn type_of_param(book: &[u8], index: &[u16], f: u16, name: u16) -> u16
+    requires { ⌜ Stands (now book) (now index) f FUNCTION ⌝ }
+    ensures { λ s. ⌜ Gives (now (book .entry)) (now (index .entry)) (typeFor name (scopeIn (funOf (now (book .entry)) (now (index .entry)) f))) s ⌝ }
+{
+    let n = field_at(book, index, f, 1) as usize;
+    let mut k: usize = 0;
+    while k < n {
+        if field_at(book, index, f, 2 + 2 * k) == name {
+            return field_at(book, index, f, 3 + 2 * k);
+        }
+        k += 1;
+    }
+    NONE
+}
+
+// The type of a name in the row of live bindings, from the newest on. One row of what was sought in vain serves them all, since they
+// may share their parts.
+fn newest_type(
+    book: &[u8],
+    index: &[u16],
+    bindings: &[u16],
+    live: usize,
+    base: u16,
+    name: u16,
+) -> u16
+    requires { ⌜ Live (now book) (now index) (now bindings) live base ⌝ }
+    ensures { λ s. ⌜ Newest (now (book .entry)) (now (index .entry)) (now (bindings .entry)) live base name s ⌝ }
+{
+    let mut missing = [0u8; 4096];
+    let mut at = live;
+    while 0 < at {
+        at -= 1;
+        let p = bindings[2 * at];
+        let t = bindings[2 * at + 1];
+        let found = type_in(book, index, p, t, name, &mut missing);
+        if found != NONE {
+            return found;
+        }
+    }
+    NONE
+}
+
+// The type of a name in scope: of its newest binding, or in the base.
+pub fn type_for(
+    book: &[u8],
+    index: &[u16],
+    bindings: &[u16],
+    live: usize,
+    base: u16,
+    name: u16,
+) -> u16
+    requires { ⌜ Live (now book) (now index) (now bindings) live base ⌝ }
+    ensures { λ s. ⌜ Gives (now (book .entry)) (now (index .entry)) (typeFor name (scopeOf (now (book .entry)) (now (index .entry)) (now (bindings .entry)) live base)) s ⌝ }
+{
+    let found = newest_type(book, index, bindings, live, base, name);
+    if found != NONE {
+        return found;
+    }
+    if base == NONE {
+        return NONE;
+    }
+    type_of_param(book, index, base, name)
+}

@@ -1,0 +1,389 @@
+// The judgement of expressions: parts in lowering order before the whole.
+ghost use mathlib.Core.Path.{_≡_};
+ghost use mathlib.Core.List.{_∷_};
+ghost use lib.Dec.{T};
+ghost use Prim.Native.Nat.{_+_, _*_, _<_, _≤_};
+ghost use Rattle.laws.specs.Table.{among};
+ghost use Rattle.book.specs.Format.{TYPE, PATTERN, EXPRESSION, STATEMENT, FUNCTION, EV, EB};
+ghost use Rattle.book.specs.Index.{field};
+ghost use Rattle.book.specs.Stands.{Stands};
+ghost use Rattle.book.specs.Tree.{typeOf, patternOf, exprOf, funOf};
+ghost use Rattle.parts.specs.Parts.{Marked, Spanned, rowMarks};
+ghost use Rattle.shapes.specs.Shapes.{typeIs};
+ghost use Rattle.shapes.specs.Binders.{binding};
+ghost use Rattle.shapes.specs.Memos.{Known, Live, scopeOf};
+ghost use Rattle.typing.specs.Check.{agree, binds, check, checkFun, variantType};
+ghost use Rattle.typing.specs.Cycle.{Room, Scoped, Enough, Stays, Bound, Stated, partsOf, rowOf, matchOf, Arms, armsFrom, armOf, statementOf, blockOf};
+use book::fault::Fault;
+use book::fault::Refusal;
+use book::format::CK;
+use book::format::EB;
+use book::format::EH;
+use book::format::EM;
+use book::format::EV;
+use book::format::SA;
+use book::format::TS;
+use book::record::field_at;
+use book::record::mark_at;
+use parts::view::span_of;
+use shapes::binder::fits;
+use shapes::binder::params_repeat;
+use shapes::binder::repeats;
+use shapes::binder::type_for;
+use shapes::part::NONE;
+use shapes::part::has_places;
+use shapes::part::is_unit;
+use shapes::part::place;
+use shapes::part::type_of;
+use shapes::whole::agrees;
+
+// What a judgement comes to.
+pub enum Checked {
+    Passed,
+    Refused(Refusal),
+}
+
+// TYPE at a record, unless its types agree.
+fn agree(holds: bool, r: u16) -> Checked
+    ensures { λ c. ⌜ c ≡ agree holds r ⌝ }
+{
+    if holds {
+        return Checked::Passed;
+    }
+    Checked::Refused(Refusal {
+        fault: Fault::Ty,
+        place: r,
+    })
+}
+
+// A variable: its name's type is the declared one.
+fn variable(
+    book: &[u8],
+    index: &[u16],
+    r: u16,
+    bindings: &[u16],
+    live: usize,
+    base: u16,
+) -> Checked
+    requires { ⌜ Marked (now book) (now index) r EV ⌝ ∗ ⌜ Live (now book) (now index) (now bindings) live base ⌝ }
+    ensures { λ c. ⌜ c ≡ check (exprOf (now (book .entry)) (now (index .entry)) r) (scopeOf (now (book .entry)) (now (index .entry)) (now (bindings .entry)) live base) ⌝ }
+{
+    let name = field_at(book, index, r, 1);
+    let found = type_for(book, index, bindings, live, base, name);
+    if found == NONE {
+        return Checked::Refused(Refusal {
+            fault: Fault::Undefined,
+            place: r,
+        });
+    }
+    agree(field_at(book, index, r, 0) == found, r)
+}
+
+// A pattern where its binding is made, at record r: it fits, and has no name twice. It becomes the newest binding.
+fn bind(
+    book: &[u8],
+    index: &[u16],
+    r: u16,
+    p: u16,
+    t: u16,
+    memo: &mut [u8],
+    bindings: &mut [u16],
+    live: usize,
+    base: u16,
+) -> Checked
+    requires { ⌜ Stands (now book) (now index) p PATTERN ⌝ ∗ ⌜ Stands (now book) (now index) t TYPE ⌝ ∗ ⌜ Scoped (now book) (now index) (now memo) (now bindings) live base ⌝ ∗ ⌜ live < 65280 ⌝ }
+    ensures { λ c. ⌜ Bound (now (book .entry)) (now (index .entry)) (binds r (patternOf (now (book .entry)) (now (index .entry)) p) (typeOf (now (book .entry)) (now (index .entry)) t)) p t live base (now (bindings .entry)) c (now (memo .exit)) (now (bindings .exit)) ⌝ }
+{
+    if !fits(book, index, p, t, memo) {
+        return Checked::Refused(Refusal {
+            fault: Fault::Ty,
+            place: r,
+        });
+    }
+    if repeats(book, index, p) {
+        return Checked::Refused(Refusal {
+            fault: Fault::Name,
+            place: r,
+        });
+    }
+    bindings[2 * live] = p;
+    bindings[2 * live + 1] = t;
+    Checked::Passed
+}
+
+// An expression, where so many bindings are live: its parts, and then the whole. A variable has no parts.
+pub fn expression(
+    book: &[u8],
+    index: &[u16],
+    r: u16,
+    memo: &mut [u8],
+    bindings: &mut [u16],
+    live: usize,
+    base: u16,
+) -> Checked
+    requires { ⌜ Stands (now book) (now index) r EXPRESSION ⌝ ∗ ⌜ Scoped (now book) (now index) (now memo) (now bindings) live base ⌝ ∗ ⌜ Enough (now book) (now index) r live ⌝ }
+    ensures { λ c. ⌜ Stays (now (book .entry)) (now (index .entry)) (check (exprOf (now (book .entry)) (now (index .entry)) r) (scopeOf (now (book .entry)) (now (index .entry)) (now (bindings .entry)) live base)) live (now (bindings .entry)) c (now (memo .exit)) (now (bindings .exit)) ⌝ }
+{
+    let m = mark_at(book, index, r);
+    if m == EV {
+        return variable(book, index, r, bindings, live, base);
+    }
+    match parts(book, index, r, m, memo, bindings, live, base) {
+        Checked::Passed => agree(agrees(book, index, r, m), r),
+        Checked::Refused(w) => Checked::Refused(w),
+    }
+}
+
+// The parts of an expression, by its mark.
+fn parts(
+    book: &[u8],
+    index: &[u16],
+    r: u16,
+    m: u8,
+    memo: &mut [u8],
+    bindings: &mut [u16],
+    live: usize,
+    base: u16,
+) -> Checked
+    requires { ⌜ Marked (now book) (now index) r m ⌝ ∗ ⌜ Scoped (now book) (now index) (now memo) (now bindings) live base ⌝ ∗ ⌜ Enough (now book) (now index) r live ⌝ ∗ ⌜ (m ≡ EV → ⊥) ⌝ }
+    ensures { λ c. ⌜ Stays (now (book .entry)) (now (index .entry)) (partsOf (now (book .entry)) (now (index .entry)) r m (scopeOf (now (book .entry)) (now (index .entry)) (now (bindings .entry)) live base)) live (now (bindings .entry)) c (now (memo .exit)) (now (bindings .exit)) ⌝ }
+{
+    if m == EB {
+        return block(book, index, r, memo, bindings, live, base);
+    }
+    if m == EM {
+        return matching(book, index, r, 2, 2, memo, bindings, live, base);
+    }
+    if m == EH {
+        let n = field_at(book, index, r, 2) as usize;
+        return matching(book, index, r, 3, n, memo, bindings, live, base);
+    }
+    if m == CK {
+        let e = field_at(book, index, r, 1);
+        return expression(book, index, e, memo, bindings, live, base);
+    }
+    row(book, index, r, m, memo, bindings, live, base)
+}
+
+// The elements of a record's row.
+fn row(
+    book: &[u8],
+    index: &[u16],
+    r: u16,
+    m: u8,
+    memo: &mut [u8],
+    bindings: &mut [u16],
+    live: usize,
+    base: u16,
+) -> Checked
+    requires { ⌜ Marked (now book) (now index) r m ⌝ ∗ ⌜ Scoped (now book) (now index) (now memo) (now bindings) live base ⌝ ∗ ⌜ Enough (now book) (now index) r live ⌝ }
+    ensures { λ c. ⌜ Stays (now (book .entry)) (now (index .entry)) (rowOf (now (book .entry)) (now (index .entry)) r m (scopeOf (now (book .entry)) (now (index .entry)) (now (bindings .entry)) live base)) live (now (bindings .entry)) c (now (memo .exit)) (now (bindings .exit)) ⌝ }
+{
+    let span = span_of(book, index, r, m);
+    let mut k: usize = 0;
+    while k < span.count {
+        let e = field_at(book, index, r, span.from + span.stride * k);
+        match expression(book, index, e, memo, bindings, live, base) {
+            Checked::Passed => {}
+            Checked::Refused(w) => {
+                return Checked::Refused(w);
+            }
+        }
+        k += 1;
+    }
+    Checked::Passed
+}
+
+// A match of n arms, the first of whose patterns is field `from`: the scrutinee's type has those arms; the arms; the scrutinee.
+fn matching(
+    book: &[u8],
+    index: &[u16],
+    r: u16,
+    from: usize,
+    n: usize,
+    memo: &mut [u8],
+    bindings: &mut [u16],
+    live: usize,
+    base: u16,
+) -> Checked
+    requires { ⌜ Arms (now book) (now index) r from n ⌝ ∗ ⌜ Scoped (now book) (now index) (now memo) (now bindings) live base ⌝ ∗ ⌜ Enough (now book) (now index) r live ⌝ }
+    ensures { λ c. ⌜ Stays (now (book .entry)) (now (index .entry)) (matchOf (now (book .entry)) (now (index .entry)) r from n (scopeOf (now (book .entry)) (now (index .entry)) (now (bindings .entry)) live base)) live (now (bindings .entry)) c (now (memo .exit)) (now (bindings .exit)) ⌝ }
+{
+    let e = field_at(book, index, r, 1);
+    let t = type_of(book, index, e);
+    if !has_places(book, index, t, n as u32) {
+        return agree(false, r);
+    }
+    match arms(book, index, r, from, n, t, memo, bindings, live, base) {
+        Checked::Passed => expression(book, index, e, memo, bindings, live, base),
+        Checked::Refused(w) => Checked::Refused(w),
+    }
+}
+
+// The arms of a match on the type t.
+fn arms(
+    book: &[u8],
+    index: &[u16],
+    r: u16,
+    from: usize,
+    n: usize,
+    t: u16,
+    memo: &mut [u8],
+    bindings: &mut [u16],
+    live: usize,
+    base: u16,
+) -> Checked
+    requires { ⌜ Arms (now book) (now index) r from n ⌝ ∗ ⌜ Places (now book) (now index) t n ⌝ ∗ ⌜ Scoped (now book) (now index) (now memo) (now bindings) live base ⌝ ∗ ⌜ Enough (now book) (now index) r live ⌝ }
+    ensures { λ c. ⌜ Stays (now (book .entry)) (now (index .entry)) (armsFrom (now (book .entry)) (now (index .entry)) r from n t (scopeOf (now (book .entry)) (now (index .entry)) (now (bindings .entry)) live base) 0) live (now (bindings .entry)) c (now (memo .exit)) (now (bindings .exit)) ⌝ }
+{
+    let mut k: usize = 0;
+    while k < n {
+        let s = place(book, index, TS, t, n as u32, k as u32);
+        match arm(book, index, r, from + 2 * k, s, memo, bindings, live, base) {
+            Checked::Passed => {}
+            Checked::Refused(w) => {
+                return Checked::Refused(w);
+            }
+        }
+        k += 1;
+    }
+    Checked::Passed
+}
+
+// The arm whose pattern is field j, of the type s: its expression, where its pattern is bound.
+fn arm(
+    book: &[u8],
+    index: &[u16],
+    r: u16,
+    j: usize,
+    s: u16,
+    memo: &mut [u8],
+    bindings: &mut [u16],
+    live: usize,
+    base: u16,
+) -> Checked
+    requires { ⌜ Arm (now book) (now index) r j ⌝ ∗ ⌜ Stands (now book) (now index) s TYPE ⌝ ∗ ⌜ Scoped (now book) (now index) (now memo) (now bindings) live base ⌝ ∗ ⌜ Enough (now book) (now index) r live ⌝ }
+    ensures { λ c. ⌜ Stays (now (book .entry)) (now (index .entry)) (armOf (now (book .entry)) (now (index .entry)) r j (typeOf (now (book .entry)) (now (index .entry)) s) (scopeOf (now (book .entry)) (now (index .entry)) (now (bindings .entry)) live base)) live (now (bindings .entry)) c (now (memo .exit)) (now (bindings .exit)) ⌝ }
+{
+    let p = field_at(book, index, r, j);
+    let e = field_at(book, index, r, j + 1);
+    match bind(book, index, r, p, s, memo, bindings, live, base) {
+        Checked::Passed => expression(book, index, e, memo, bindings, live + 1, base),
+        Checked::Refused(w) => Checked::Refused(w),
+    }
+}
+
+// A block: its statements in order, and its end.
+fn block(
+    book: &[u8],
+    index: &[u16],
+    r: u16,
+    memo: &mut [u8],
+    bindings: &mut [u16],
+    live: usize,
+    base: u16,
+) -> Checked
+    requires { ⌜ Marked (now book) (now index) r EB ⌝ ∗ ⌜ Scoped (now book) (now index) (now memo) (now bindings) live base ⌝ ∗ ⌜ Enough (now book) (now index) r live ⌝ }
+    ensures { λ c. ⌜ Stays (now (book .entry)) (now (index .entry)) (blockOf (now (book .entry)) (now (index .entry)) r (scopeOf (now (book .entry)) (now (index .entry)) (now (bindings .entry)) live base)) live (now (bindings .entry)) c (now (memo .exit)) (now (bindings .exit)) ⌝ }
+{
+    let n = field_at(book, index, r, 1) as usize;
+    let mut at = live;
+    let mut k: usize = 0;
+    while k < n {
+        let s = field_at(book, index, r, 2 + k);
+        match statement(book, index, s, memo, bindings, at, base) {
+            Checked::Passed => {
+                at = entered(book, index, s, at);
+            }
+            Checked::Refused(w) => {
+                return Checked::Refused(w);
+            }
+        }
+        k += 1;
+    }
+    let end = field_at(book, index, r, 2 + n);
+    if end == 65535 {
+        return Checked::Passed;
+    }
+    expression(book, index, end, memo, bindings, at, base)
+}
+
+// How many bindings are live after statement s.
+fn entered(book: &[u8], index: &[u16], s: u16, live: usize) -> usize
+    requires { ⌜ Stands (now book) (now index) s STATEMENT ⌝ ∗ ⌜ live < 65280 ⌝ }
+    ensures { λ n. ⌜ n ≡ liveAfter (now (book .entry)) (now (index .entry)) s live ⌝ }
+{
+    if mark_at(book, index, s) == SA {
+        return live + 1;
+    }
+    live
+}
+
+// A statement: its expression, and then its binding, or that it is of type unit.
+fn statement(
+    book: &[u8],
+    index: &[u16],
+    s: u16,
+    memo: &mut [u8],
+    bindings: &mut [u16],
+    live: usize,
+    base: u16,
+) -> Checked
+    requires { ⌜ Stands (now book) (now index) s STATEMENT ⌝ ∗ ⌜ Scoped (now book) (now index) (now memo) (now bindings) live base ⌝ ∗ ⌜ Enough (now book) (now index) s live ⌝ }
+    ensures { λ c. ⌜ Stated (now (book .entry)) (now (index .entry)) s live base (now (bindings .entry)) c (now (memo .exit)) (now (bindings .exit)) ⌝ }
+{
+    if mark_at(book, index, s) != SA {
+        return does(book, index, s, memo, bindings, live, base);
+    }
+    let p = field_at(book, index, s, 0);
+    let e = field_at(book, index, s, 1);
+    match expression(book, index, e, memo, bindings, live, base) {
+        Checked::Passed => {
+            let t = type_of(book, index, e);
+            bind(book, index, s, p, t, memo, bindings, live, base)
+        }
+        Checked::Refused(w) => Checked::Refused(w),
+    }
+}
+
+// A statement that is an expression alone.
+fn does(
+    book: &[u8],
+    index: &[u16],
+    s: u16,
+    memo: &mut [u8],
+    bindings: &mut [u16],
+    live: usize,
+    base: u16,
+) -> Checked
+    requires { ⌜ Stands (now book) (now index) s STATEMENT ⌝ ∗ ⌜ (mark (now book) (now index) s ≡ SA → ⊥) ⌝ ∗ ⌜ Scoped (now book) (now index) (now memo) (now bindings) live base ⌝ ∗ ⌜ Enough (now book) (now index) s live ⌝ }
+    ensures { λ c. ⌜ Stays (now (book .entry)) (now (index .entry)) (statementOf (now (book .entry)) (now (index .entry)) s (scopeOf (now (book .entry)) (now (index .entry)) (now (bindings .entry)) live base)) live (now (bindings .entry)) c (now (memo .exit)) (now (bindings .exit)) ⌝ }
+{
+    let e = field_at(book, index, s, 0);
+    match expression(book, index, e, memo, bindings, live, base) {
+        Checked::Passed => {
+            let t = type_of(book, index, e);
+            agree(is_unit(book, index, t), s)
+        }
+        Checked::Refused(w) => Checked::Refused(w),
+    }
+}
+
+// A function: its parameter names, its body in a scope of its parameters only, and what it gives.
+pub fn function(book: &[u8], index: &[u16], f: u16, memo: &mut [u8], bindings: &mut [u16]) -> Checked
+    requires { ⌜ Stands (now book) (now index) f FUNCTION ⌝ ∗ ⌜ Known (now book) (now index) (now memo) ⌝ ∗ ⌜ Room (now bindings) ⌝ }
+    ensures { λ c. ⌜ Stays (now (book .entry)) (now (index .entry)) (checkFun (funOf (now (book .entry)) (now (index .entry)) f)) 0 (now (bindings .entry)) c (now (memo .exit)) (now (bindings .exit)) ⌝ }
+{
+    if params_repeat(book, index, f) {
+        return Checked::Refused(Refusal {
+            fault: Fault::Name,
+            place: f,
+        });
+    }
+    let n = field_at(book, index, f, 1) as usize;
+    let e = field_at(book, index, f, 2 + 2 * n);
+    match expression(book, index, e, memo, bindings, 0, f) {
+        Checked::Passed => agree(type_of(book, index, e) == field_at(book, index, f, 0), f),
+        Checked::Refused(w) => Checked::Refused(w),
+    }
+}

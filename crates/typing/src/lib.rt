@@ -1,0 +1,106 @@
+// CHECK: each declared type against the one its parts give.
+ghost use mathlib.Core.Path.{_≡_};
+ghost use Prim.Native.Nat.{_-_, _≤_};
+ghost use Rattle.book.specs.Valid.{Valid};
+ghost use Rattle.shapes.specs.Memos.{Known};
+ghost use Rattle.typing.specs.Cycle.{Room, Stays};
+ghost use Rattle.typing.specs.Check.{check};
+ghost use Rattle.typing.specs.Whole.{inOrder, valueAt, functionAt, checking, checkOf};
+use crate::cycle::Checked;
+use crate::cycle::expression;
+use crate::cycle::function;
+use book::fault::Fault;
+use book::fault::ReadAnswer;
+use book::fault::Refusal;
+use book::format::FUNCTION;
+use book::format::VALUE;
+use book::format::kind_of;
+use book::read::index_book;
+use book::record::mark_at;
+use shapes::part::NONE;
+use shapes::whole::value_agrees;
+
+pub mod cycle;
+
+// CHECK's answer: how many records there are, or a refusal.
+pub enum CheckAnswer {
+    Records(u16),
+    Refused(Refusal),
+}
+
+// CHECK: READ's refusal, or the first fault of value records, functions and the root.
+pub fn check(book: &[u8]) -> CheckAnswer
+    ensures { λ r. ⌜ r ≡ checkOf (now (book .entry)) ⌝ }
+{
+    let indexed = index_book(book);
+    let answer = indexed.answer;
+    match answer {
+        ReadAnswer::Records(n) => match records(book, &indexed.index, n) {
+            Checked::Passed => CheckAnswer::Records(n),
+            Checked::Refused(w) => CheckAnswer::Refused(w),
+        },
+        ReadAnswer::Refused(w) => CheckAnswer::Refused(w),
+    }
+}
+
+// The records of a book that READ accepts: values, then functions, then the root.
+fn records(book: &[u8], index: &[u16], n: u16) -> Checked
+    requires { ⌜ Valid (now book) (now index) n ⌝ }
+    ensures { λ c. ⌜ c ≡ checking (now (book .entry)) (now (index .entry)) n ⌝ }
+{
+    match values(book, index, n) {
+        Checked::Refused(w) => {
+            return Checked::Refused(w);
+        }
+        Checked::Passed => {}
+    }
+    let mut memo = [0u8; 2097152];
+    let mut bindings = [0u16; 130560];
+    match functions(book, index, n, &mut memo, &mut bindings) {
+        Checked::Refused(w) => {
+            return Checked::Refused(w);
+        }
+        Checked::Passed => {}
+    }
+    expression(book, index, n - 1, &mut memo, &mut bindings, 0, NONE)
+}
+
+// The value records in their order.
+fn values(book: &[u8], index: &[u16], n: u16) -> Checked
+    requires { ⌜ Valid (now book) (now index) n ⌝ }
+    ensures { λ c. ⌜ c ≡ inOrder (valueAt (now (book .entry)) (now (index .entry))) 0 n ⌝ }
+{
+    let mut r: u16 = 0;
+    while r < n {
+        if kind_of(mark_at(book, index, r)) == VALUE {
+            if !value_agrees(book, index, r) {
+                return Checked::Refused(Refusal {
+                    fault: Fault::Ty,
+                    place: r,
+                });
+            }
+        }
+        r += 1;
+    }
+    Checked::Passed
+}
+
+// The functions in their order, called or not.
+fn functions(book: &[u8], index: &[u16], n: u16, memo: &mut [u8], bindings: &mut [u16]) -> Checked
+    requires { ⌜ Valid (now book) (now index) n ⌝ ∗ ⌜ Known (now book) (now index) (now memo) ⌝ ∗ ⌜ Room (now bindings) ⌝ }
+    ensures { λ c. ⌜ Stays (now (book .entry)) (now (index .entry)) (inOrder (functionAt (now (book .entry)) (now (index .entry))) 0 n) 0 (now (bindings .entry)) c (now (memo .exit)) (now (bindings .exit)) ⌝ }
+{
+    let mut r: u16 = 0;
+    while r < n {
+        if kind_of(mark_at(book, index, r)) == FUNCTION {
+            match function(book, index, r, memo, bindings) {
+                Checked::Refused(w) => {
+                    return Checked::Refused(w);
+                }
+                Checked::Passed => {}
+            }
+        }
+        r += 1;
+    }
+    Checked::Passed
+}
