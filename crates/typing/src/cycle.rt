@@ -1,19 +1,14 @@
 // The judgement of expressions: parts in lowering order before the whole.
 ghost use mathlib.Core.Path.{_≡_};
-ghost use mathlib.Core.List.{_∷_};
-ghost use lib.Dec.{T};
-ghost use Prim.Native.Nat.{_+_, _*_, _<_, _≤_};
-ghost use Rattle.laws.specs.Table.{among};
-ghost use Rattle.book.specs.Format.{TYPE, PATTERN, EXPRESSION, STATEMENT, FUNCTION, EV, EB};
-ghost use Rattle.book.specs.Index.{field};
+ghost use Prim.Native.Nat.{_<_};
+ghost use Rattle.book.specs.Format.{TYPE, PATTERN, EXPRESSION, STATEMENT, FUNCTION, EV, EB, SA};
+ghost use Rattle.book.specs.Index.{mark};
 ghost use Rattle.book.specs.Stands.{Stands};
 ghost use Rattle.book.specs.Tree.{typeOf, patternOf, exprOf, funOf};
-ghost use Rattle.parts.specs.Parts.{Marked, Spanned, rowMarks};
-ghost use Rattle.shapes.specs.Shapes.{typeIs};
-ghost use Rattle.shapes.specs.Binders.{binding};
+ghost use Rattle.parts.specs.Parts.{Marked};
 ghost use Rattle.shapes.specs.Memos.{Known, Live, scopeOf};
-ghost use Rattle.typing.specs.Check.{agree, binds, check, checkFun, variantType};
-ghost use Rattle.typing.specs.Cycle.{Room, Scoped, Enough, Stays, Bound, Stated, partsOf, rowOf, matchOf, Arms, armsFrom, armOf, statementOf, blockOf};
+ghost use Rattle.typing.specs.Check.{agree, binds, check, checkFun};
+ghost use Rattle.typing.specs.Cycle.{Room, Scoped, Enough, Stays, Bound, Stated, Arm, Arms, Places, partsOf, rowOf, matchOf, armsFrom, armOf, statementOf, blockOf, liveAfter};
 use book::fault::Fault;
 use book::fault::Refusal;
 use book::format::CK;
@@ -234,7 +229,7 @@ fn arms(
     base: u16,
 ) -> Checked
     requires { ⌜ Arms (now book) (now index) r from n ⌝ ∗ ⌜ Places (now book) (now index) t n ⌝ ∗ ⌜ Scoped (now book) (now index) (now memo) (now bindings) live base ⌝ ∗ ⌜ Enough (now book) (now index) r live ⌝ }
-    ensures { λ c. ⌜ Stays (now (book .entry)) (now (index .entry)) (armsFrom (now (book .entry)) (now (index .entry)) r from n t (scopeOf (now (book .entry)) (now (index .entry)) (now (bindings .entry)) live base) 0) live (now (bindings .entry)) c (now (memo .exit)) (now (bindings .exit)) ⌝ }
+    ensures { λ c. ⌜ Stays (now (book .entry)) (now (index .entry)) (armsFrom (now (book .entry)) (now (index .entry)) r from n (typeOf (now (book .entry)) (now (index .entry)) t) (scopeOf (now (book .entry)) (now (index .entry)) (now (bindings .entry)) live base) 0 n) live (now (bindings .entry)) c (now (memo .exit)) (now (bindings .exit)) ⌝ }
 {
     let mut k: usize = 0;
     while k < n {

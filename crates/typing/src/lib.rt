@@ -1,10 +1,8 @@
 // CHECK: each declared type against the one its parts give.
 ghost use mathlib.Core.Path.{_≡_};
-ghost use Prim.Native.Nat.{_-_, _≤_};
 ghost use Rattle.book.specs.Valid.{Valid};
 ghost use Rattle.shapes.specs.Memos.{Known};
 ghost use Rattle.typing.specs.Cycle.{Room, Stays};
-ghost use Rattle.typing.specs.Check.{check};
 ghost use Rattle.typing.specs.Whole.{inOrder, valueAt, functionAt, checking, checkOf};
 use crate::cycle::Checked;
 use crate::cycle::expression;
