@@ -87,7 +87,7 @@ unfoldable mutual
   check (forWhile r t f w a x) sc = andThen (andThen (check a sc) (check x sc)) (agree (whole (forWhile r t f w a x)) r)
   check (hash r t s ps) sc = andThen (words ps sc) (agree (whole (hash r t s ps)) r)
   -- what no book that READ accepts has
-  check noExpr sc = Passed
+  check noExpr sc = agree (whole noExpr) 0
 
   pub checks : Exprs → List Binding → Checked
   checks noExprs sc = Passed
