@@ -71,7 +71,7 @@ placed b i r m t = every rowMarks (Placed b i r)
 
 -- element k of the span p of record r
 module _ {b i : List ℕ} {r m : ℕ} (g : Marked b i r m) (t : T (among rowMarks m)) {p : Span} (e : p ≡ spanAt m (field b i r)) (k : ℕ) (h : k < p .count) where
-  span-field : Field b i r (p .from + p .stride * k) EXPRESSION
+  pub span-field : Field b i r (p .from + p .stride * k) EXPRESSION
   span-field = rw e (placed b i r m t (g .is) k (rw e at h))
 
   pub span-lies : Lies b i r (p .from + p .stride * k)

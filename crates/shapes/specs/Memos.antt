@@ -12,6 +12,7 @@ use Rattle.laws.specs.Table.{pick}
 use Rattle.array.specs.Path.{Side}
 use Rattle.simplicity.specs.Types.{Ty}
 use Rattle.book.specs.Format.{TYPE, PATTERN, FUNCTION}
+use Rattle.book.specs.Index.{kind}
 use Rattle.book.specs.Stands.{Stands}
 use Rattle.book.specs.Tree.{Pat, typeOf, patternOf, funOf}
 use Rattle.pattern.specs.Find.{find}
@@ -87,6 +88,11 @@ pub record Tallies (b i : List ℕ) (xs ns : List ℕ) (s : Noted) (ns′ ms′ 
   pub kept : length ns′ ≡ length ns
   pub nameless : Nameless b i ms′
   pub tally : Tally xs ns s ns′
+
+-- a row that has for each pattern among the first n records whether a name stands in it twice: 1 or 0
+pub record Doubled (b i : List ℕ) (n : ℕ) (ds : List ℕ) : Type 0 where
+  pub size : length ds ≡ 4096
+  pub is : (r : ℕ) → r < n → kind b i r ≡ PATTERN → getD ds r 0 ≡ pick (twice (names (patternOf b i r))) 1 0
 
 -- the root binding of a scope whose base is x: a function's parameters, or the input
 abbrev pub baseOf : List ℕ → List ℕ → ℕ → List Binding

@@ -2,24 +2,26 @@
 // entered again for what is known of it.
 ghost use mathlib.Core.Path.{_≡_};
 ghost use Prim.Native.Nat.{_<_, _≤_};
-ghost use lib.ListN.{length};
+ghost use lib.ListN.{length, replicate};
 ghost use Rattle.book.specs.Format.{TYPE, PATTERN, FUNCTION, PT};
 ghost use Rattle.book.specs.Index.{mark};
 ghost use Rattle.book.specs.Stands.{Stands};
+ghost use Rattle.book.specs.Valid.{Valid};
 ghost use Rattle.book.specs.Tree.{typeOf, patternOf, funOf};
 ghost use Rattle.pattern.specs.Find.{paramsOf};
 ghost use Rattle.pattern.specs.Seeks.{Memo};
 ghost use Rattle.shapes.specs.Views.{Gives};
 ghost use Rattle.shapes.specs.Binders.{fits, names, paramNames, twice, typeFor, scopeIn};
-ghost use Rattle.shapes.specs.Memos.{powerOf, marked, Known, Marks, Fitted, Sights, Met, Nameless, Notes, Tallies, Binds, scopeOf, Live, Newest};
+ghost use Rattle.shapes.specs.Memos.{powerOf, marked, Known, Marks, Fitted, Sights, Met, Nameless, Notes, Tallies, Doubled, Binds, scopeOf, Live, Newest};
+use crate::part::NONE;
+use crate::part::is_unit;
+use crate::part::place;
 use book::format::PI;
 use book::format::PT;
 use book::format::TP;
 use book::record::field_at;
 use book::record::mark_at;
-use crate::part::NONE;
-use crate::part::is_unit;
-use crate::part::place;
+use named::table::clear;
 
 const POWERS: [u8; 8] = [1, 2, 4, 8, 16, 32, 64, 128];
 
@@ -174,6 +176,23 @@ pub fn repeats(book: &[u8], index: &[u16], p: u16) -> bool
     }
 }
 
+// Marks each of the first n records that is a pattern with a name twice. It is worked out before patterns are bound, so that no row of
+// names stands in a recursion.
+pub fn doubles(book: &[u8], index: &[u16], n: u16, doubled: &mut [u8])
+    requires { ⌜ Valid (now book) (now index) n ⌝ ∗ ⌜ now doubled ≡ replicate 4096 0 ⌝ }
+    ensures { λ _. ⌜ Doubled (now (book .entry)) (now (index .entry)) n (now (doubled .exit)) ⌝ }
+{
+    let mut r: u16 = 0;
+    while r < n {
+        if mark_at(book, index, r) == PT {
+            if repeats(book, index, r) {
+                doubled[r as usize] = 1;
+            }
+        }
+        r += 1;
+    }
+}
+
 // Whether a function's parameter list has a name twice.
 pub fn params_repeat(book: &[u8], index: &[u16], f: u16) -> bool
     requires { ⌜ Stands (now book) (now index) f FUNCTION ⌝ }
@@ -198,14 +217,7 @@ pub fn params_repeat(book: &[u8], index: &[u16], f: u16) -> bool
 
 // The type of a name in a pattern that fits a type, at its first place from the left. `missing` has a 1 for each record in which this
 // name was already sought in vain.
-fn type_in(
-    book: &[u8],
-    index: &[u16],
-    p: u16,
-    t: u16,
-    name: u16,
-    missing: &mut [u8],
-) -> u16
+fn type_in(book: &[u8], index: &[u16], p: u16, t: u16, name: u16, missing: &mut [u8]) -> u16
     requires { ⌜ Binds (now book) (now index) p t ⌝ ∗ ⌜ Memo (now book) (now index) name (now missing) ⌝ }
     ensures { λ s. ⌜ Sights (now (book .entry)) (now (index .entry)) name (patternOf (now (book .entry)) (now (index .entry)) p) (typeOf (now (book .entry)) (now (index .entry)) t) s (now (missing .exit)) ⌝ }
 {
@@ -225,14 +237,7 @@ fn type_in(
 }
 
 // The same for a row: its elements one after another, each with the type at its place.
-fn type_in_row(
-    book: &[u8],
-    index: &[u16],
-    p: u16,
-    t: u16,
-    name: u16,
-    missing: &mut [u8],
-) -> u16
+fn type_in_row(book: &[u8], index: &[u16], p: u16, t: u16, name: u16, missing: &mut [u8]) -> u16
     requires { ⌜ Binds (now book) (now index) p t ⌝ ∗ ⌜ mark (now book) (now index) p ≡ PT ⌝ ∗ ⌜ Memo (now book) (now index) name (now missing) ⌝ }
     ensures { λ s. ⌜ Sights (now (book .entry)) (now (index .entry)) name (patternOf (now (book .entry)) (now (index .entry)) p) (typeOf (now (book .entry)) (now (index .entry)) t) s (now (missing .exit)) ⌝ }
 {
@@ -276,17 +281,18 @@ fn newest_type(
     live: usize,
     base: u16,
     name: u16,
+    missing: &mut [u8],
 ) -> u16
-    requires { ⌜ Live (now book) (now index) (now bindings) live base ⌝ }
-    ensures { λ s. ⌜ Newest (now (book .entry)) (now (index .entry)) (now (bindings .entry)) live base name s ⌝ }
+    requires { ⌜ Live (now book) (now index) (now bindings) live base ⌝ ∗ ⌜ length (now missing) ≡ 4096 ⌝ }
+    ensures { λ s. ⌜ (Newest (now (book .entry)) (now (index .entry)) (now (bindings .entry)) live base name s) × (length (now (missing .exit)) ≡ 4096) ⌝ }
 {
-    let mut missing = [0u8; 4096];
+    clear(missing);
     let mut at = live;
     while 0 < at {
         at -= 1;
         let p = bindings[2 * at];
         let t = bindings[2 * at + 1];
-        let found = type_in(book, index, p, t, name, &mut missing);
+        let found = type_in(book, index, p, t, name, missing);
         if found != NONE {
             return found;
         }
@@ -302,11 +308,12 @@ pub fn type_for(
     live: usize,
     base: u16,
     name: u16,
+    missing: &mut [u8],
 ) -> u16
-    requires { ⌜ Live (now book) (now index) (now bindings) live base ⌝ }
-    ensures { λ s. ⌜ Gives (now (book .entry)) (now (index .entry)) (typeFor name (scopeOf (now (book .entry)) (now (index .entry)) (now (bindings .entry)) live base)) s ⌝ }
+    requires { ⌜ Live (now book) (now index) (now bindings) live base ⌝ ∗ ⌜ length (now missing) ≡ 4096 ⌝ }
+    ensures { λ s. ⌜ (Gives (now (book .entry)) (now (index .entry)) (typeFor name (scopeOf (now (book .entry)) (now (index .entry)) (now (bindings .entry)) live base)) s) × (length (now (missing .exit)) ≡ 4096) ⌝ }
 {
-    let found = newest_type(book, index, bindings, live, base, name);
+    let found = newest_type(book, index, bindings, live, base, name, missing);
     if found != NONE {
         return found;
     }

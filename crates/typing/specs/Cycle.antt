@@ -11,33 +11,37 @@ use Rattle.simplicity.specs.Types.{Ty, one, same}
 use Rattle.book.specs.Format.{TYPE, PATTERN, EXPRESSION, SA, EB, EM, EH, CK}
 use Rattle.book.specs.Index.{mark, field, depth, Lies}
 use Rattle.book.specs.Stands.{Stands}
+use Rattle.book.specs.Valid.{Valid}
 use Rattle.book.specs.Tree.{Stmts, stmtsAt, group, tree, typeOf, patternOf, exprOf}
 use Rattle.parts.specs.Parts.{spanAt}
 use Rattle.shapes.specs.Shapes.{typeIs, hasPlaces}
 use Rattle.shapes.specs.Binders.{Binding, binding}
-use Rattle.shapes.specs.Memos.{Known, Live, scopeOf}
+use Rattle.shapes.specs.Memos.{Known, Doubled, Live, scopeOf}
 use Rattle.typing.specs.Check.{andThen, agree, binds, variantType, check, statements}
 use Rattle.typing.specs.declared.cycle.Checked.{Checked}
 use Rattle.typing.specs.declared.cycle.Checked.the-variants.{Passed, Refused}
 
--- the row of live bindings has room for 256 of them at each of 255 depths
-unfoldable pub Room : List ℕ → Type 0
-Room bs = length bs ≡ 130560
-
--- the rows that a judgement is lent, where n bindings are live
-pub record Scoped (b i memo bs : List ℕ) (n base : ℕ) : Type 0 where
+-- the rows that a judgement is lent: which patterns have a name twice, which pairs are known to fit, which records were searched in vain, and the live bindings, with room for 256 of them at each of 255 depths
+pub record Rows (b i ds memo ms bs : List ℕ) : Type 0 where
+  pub doubled : (n : ℕ) → Valid b i n → Doubled b i n ds
   pub known : Known b i memo
+  pub missing : length ms ≡ 4096
+  pub room : length bs ≡ 130560
+
+-- where n bindings are live
+pub record Scoped (b i ds memo ms bs : List ℕ) (n base : ℕ) : Type 0 where
+  pub rows : Rows b i ds memo ms bs
   pub live : Live b i bs n base
-  pub room : Room bs
 
 -- there is room for the bindings of record r and of all below it: at most 256 at each depth
-unfoldable pub Enough : List ℕ → List ℕ → ℕ → ℕ → Type 0
-Enough b i r n = n + 256 * depth b i r ≤ 65280
+pub record Enough (b i : List ℕ) (r n : ℕ) : Type 0 where
+  pub room : n + 256 * depth b i r ≤ 65280
 
 -- a judgement that comes to v gave c; the n live bindings stay as they were
-pub record Stays (b i : List ℕ) (v : Checked) (n : ℕ) (bs : List ℕ) (c : Checked) (memo′ bs′ : List ℕ) : Type 0 where
+pub record Stays (b i : List ℕ) (v : Checked) (n : ℕ) (bs : List ℕ) (c : Checked) (memo′ ms′ bs′ : List ℕ) : Type 0 where
   pub is : c ≡ v
   pub known : Known b i memo′
+  pub missing : length ms′ ≡ 4096
   pub kept : length bs′ ≡ length bs
   pub before : (j : ℕ) → j < 2 * n → getD bs′ j 0 ≡ getD bs j 0
 
@@ -47,8 +51,8 @@ pub record Holds (b i bs : List ℕ) (n base : ℕ) (sc : List Binding) : Type 0
   pub is : scopeOf b i bs n base ≡ sc
 
 -- a binding of pattern p to type t, where n are live
-pub record Bound (b i : List ℕ) (v : Checked) (p t n base : ℕ) (bs : List ℕ) (c : Checked) (memo′ bs′ : List ℕ) : Type 0 where
-  pub stays : Stays b i v n bs c memo′ bs′
+pub record Bound (b i : List ℕ) (v : Checked) (p t n base : ℕ) (bs : List ℕ) (c : Checked) (memo′ ms′ bs′ : List ℕ) : Type 0 where
+  pub stays : Stays b i v n bs c memo′ ms′ bs′
   pub newer : c ≡ Passed → Holds b i bs′ (suc n) base (binding (patternOf b i p) (typeOf b i t) ∷ scopeOf b i bs n base)
 
 module _ (b i : List ℕ) where
@@ -99,8 +103,8 @@ module _ (b i : List ℕ) where
       (pick (eqb m CK) (check (exprOf b i (field b i r 1)) sc) (rowOf r m sc))))
 
 -- the statement s
-pub record Stated (b i : List ℕ) (s n base : ℕ) (bs : List ℕ) (c : Checked) (memo′ bs′ : List ℕ) : Type 0 where
-  pub stays : Stays b i (statementOf b i s (scopeOf b i bs n base)) n bs c memo′ bs′
+pub record Stated (b i : List ℕ) (s n base : ℕ) (bs : List ℕ) (c : Checked) (memo′ ms′ bs′ : List ℕ) : Type 0 where
+  pub stays : Stays b i (statementOf b i s (scopeOf b i bs n base)) n bs c memo′ ms′ bs′
   pub newer : c ≡ Passed → Holds b i bs′ (liveAfter b i s n) base (enteredOf b i s (scopeOf b i bs n base))
 
 -- the arm whose pattern is field j: a pattern and an expression, both of lesser depth

@@ -1,14 +1,15 @@
 // The judgement of expressions: parts in lowering order before the whole.
 ghost use mathlib.Core.Path.{_≡_};
 ghost use Prim.Native.Nat.{_<_};
+ghost use lib.ListN.{length};
 ghost use Rattle.book.specs.Format.{TYPE, PATTERN, EXPRESSION, STATEMENT, FUNCTION, EV, EB, SA};
 ghost use Rattle.book.specs.Index.{mark};
 ghost use Rattle.book.specs.Stands.{Stands};
 ghost use Rattle.book.specs.Tree.{typeOf, patternOf, exprOf, funOf};
 ghost use Rattle.parts.specs.Parts.{Marked};
-ghost use Rattle.shapes.specs.Memos.{Known, Live, scopeOf};
+ghost use Rattle.shapes.specs.Memos.{Live, scopeOf};
 ghost use Rattle.typing.specs.Check.{agree, binds, check, checkFun};
-ghost use Rattle.typing.specs.Cycle.{Room, Scoped, Enough, Stays, Bound, Stated, Arm, Arms, Places, partsOf, rowOf, matchOf, armsFrom, armOf, statementOf, blockOf, liveAfter};
+ghost use Rattle.typing.specs.Cycle.{Rows, Scoped, Enough, Stays, Bound, Stated, Arm, Arms, Places, partsOf, rowOf, matchOf, armsFrom, armOf, statementOf, blockOf, liveAfter};
 use book::fault::Fault;
 use book::fault::Refusal;
 use book::format::CK;
@@ -23,7 +24,6 @@ use book::record::mark_at;
 use parts::view::span_of;
 use shapes::binder::fits;
 use shapes::binder::params_repeat;
-use shapes::binder::repeats;
 use shapes::binder::type_for;
 use shapes::part::NONE;
 use shapes::part::has_places;
@@ -56,15 +56,16 @@ fn variable(
     book: &[u8],
     index: &[u16],
     r: u16,
+    missing: &mut [u8],
     bindings: &[u16],
     live: usize,
     base: u16,
 ) -> Checked
-    requires { ⌜ Marked (now book) (now index) r EV ⌝ ∗ ⌜ Live (now book) (now index) (now bindings) live base ⌝ }
-    ensures { λ c. ⌜ c ≡ check (exprOf (now (book .entry)) (now (index .entry)) r) (scopeOf (now (book .entry)) (now (index .entry)) (now (bindings .entry)) live base) ⌝ }
+    requires { ⌜ Marked (now book) (now index) r EV ⌝ ∗ ⌜ Live (now book) (now index) (now bindings) live base ⌝ ∗ ⌜ length (now missing) ≡ 4096 ⌝ }
+    ensures { λ c. ⌜ (c ≡ check (exprOf (now (book .entry)) (now (index .entry)) r) (scopeOf (now (book .entry)) (now (index .entry)) (now (bindings .entry)) live base)) × (length (now (missing .exit)) ≡ 4096) ⌝ }
 {
     let name = field_at(book, index, r, 1);
-    let found = type_for(book, index, bindings, live, base, name);
+    let found = type_for(book, index, bindings, live, base, name, missing);
     if found == NONE {
         return Checked::Refused(Refusal {
             fault: Fault::Undefined,
@@ -81,13 +82,15 @@ fn bind(
     r: u16,
     p: u16,
     t: u16,
+    doubled: &[u8],
     memo: &mut [u8],
+    missing: &mut [u8],
     bindings: &mut [u16],
     live: usize,
     base: u16,
 ) -> Checked
-    requires { ⌜ Stands (now book) (now index) p PATTERN ⌝ ∗ ⌜ Stands (now book) (now index) t TYPE ⌝ ∗ ⌜ Scoped (now book) (now index) (now memo) (now bindings) live base ⌝ ∗ ⌜ live < 65280 ⌝ }
-    ensures { λ c. ⌜ Bound (now (book .entry)) (now (index .entry)) (binds r (patternOf (now (book .entry)) (now (index .entry)) p) (typeOf (now (book .entry)) (now (index .entry)) t)) p t live base (now (bindings .entry)) c (now (memo .exit)) (now (bindings .exit)) ⌝ }
+    requires { ⌜ Stands (now book) (now index) p PATTERN ⌝ ∗ ⌜ Stands (now book) (now index) t TYPE ⌝ ∗ ⌜ Scoped (now book) (now index) (now doubled) (now memo) (now missing) (now bindings) live base ⌝ ∗ ⌜ live < 65280 ⌝ }
+    ensures { λ c. ⌜ Bound (now (book .entry)) (now (index .entry)) (binds r (patternOf (now (book .entry)) (now (index .entry)) p) (typeOf (now (book .entry)) (now (index .entry)) t)) p t live base (now (bindings .entry)) c (now (memo .exit)) (now (missing .exit)) (now (bindings .exit)) ⌝ }
 {
     if !fits(book, index, p, t, memo) {
         return Checked::Refused(Refusal {
@@ -95,7 +98,7 @@ fn bind(
             place: r,
         });
     }
-    if repeats(book, index, p) {
+    if doubled[p as usize] == 1 {
         return Checked::Refused(Refusal {
             fault: Fault::Name,
             place: r,
@@ -111,19 +114,32 @@ pub fn expression(
     book: &[u8],
     index: &[u16],
     r: u16,
+    doubled: &[u8],
     memo: &mut [u8],
+    missing: &mut [u8],
     bindings: &mut [u16],
     live: usize,
     base: u16,
 ) -> Checked
-    requires { ⌜ Stands (now book) (now index) r EXPRESSION ⌝ ∗ ⌜ Scoped (now book) (now index) (now memo) (now bindings) live base ⌝ ∗ ⌜ Enough (now book) (now index) r live ⌝ }
-    ensures { λ c. ⌜ Stays (now (book .entry)) (now (index .entry)) (check (exprOf (now (book .entry)) (now (index .entry)) r) (scopeOf (now (book .entry)) (now (index .entry)) (now (bindings .entry)) live base)) live (now (bindings .entry)) c (now (memo .exit)) (now (bindings .exit)) ⌝ }
+    requires { ⌜ Stands (now book) (now index) r EXPRESSION ⌝ ∗ ⌜ Scoped (now book) (now index) (now doubled) (now memo) (now missing) (now bindings) live base ⌝ ∗ ⌜ Enough (now book) (now index) r live ⌝ }
+    ensures { λ c. ⌜ Stays (now (book .entry)) (now (index .entry)) (check (exprOf (now (book .entry)) (now (index .entry)) r) (scopeOf (now (book .entry)) (now (index .entry)) (now (bindings .entry)) live base)) live (now (bindings .entry)) c (now (memo .exit)) (now (missing .exit)) (now (bindings .exit)) ⌝ }
 {
     let m = mark_at(book, index, r);
     if m == EV {
-        return variable(book, index, r, bindings, live, base);
+        return variable(book, index, r, missing, bindings, live, base);
     }
-    match parts(book, index, r, m, memo, bindings, live, base) {
+    match parts(
+        book,
+        index,
+        r,
+        m,
+        doubled,
+        memo,
+        missing,
+        bindings,
+        live,
+        base,
+    ) {
         Checked::Passed => agree(agrees(book, index, r, m), r),
         Checked::Refused(w) => Checked::Refused(w),
     }
@@ -135,29 +151,66 @@ fn parts(
     index: &[u16],
     r: u16,
     m: u8,
+    doubled: &[u8],
     memo: &mut [u8],
+    missing: &mut [u8],
     bindings: &mut [u16],
     live: usize,
     base: u16,
 ) -> Checked
-    requires { ⌜ Marked (now book) (now index) r m ⌝ ∗ ⌜ Scoped (now book) (now index) (now memo) (now bindings) live base ⌝ ∗ ⌜ Enough (now book) (now index) r live ⌝ ∗ ⌜ (m ≡ EV → ⊥) ⌝ }
-    ensures { λ c. ⌜ Stays (now (book .entry)) (now (index .entry)) (partsOf (now (book .entry)) (now (index .entry)) r m (scopeOf (now (book .entry)) (now (index .entry)) (now (bindings .entry)) live base)) live (now (bindings .entry)) c (now (memo .exit)) (now (bindings .exit)) ⌝ }
+    requires { ⌜ Marked (now book) (now index) r m ⌝ ∗ ⌜ Scoped (now book) (now index) (now doubled) (now memo) (now missing) (now bindings) live base ⌝ ∗ ⌜ Enough (now book) (now index) r live ⌝ ∗ ⌜ (m ≡ EV → ⊥) ⌝ }
+    ensures { λ c. ⌜ Stays (now (book .entry)) (now (index .entry)) (partsOf (now (book .entry)) (now (index .entry)) r m (scopeOf (now (book .entry)) (now (index .entry)) (now (bindings .entry)) live base)) live (now (bindings .entry)) c (now (memo .exit)) (now (missing .exit)) (now (bindings .exit)) ⌝ }
 {
     if m == EB {
-        return block(book, index, r, memo, bindings, live, base);
+        return block(book, index, r, doubled, memo, missing, bindings, live, base);
     }
     if m == EM {
-        return matching(book, index, r, 2, 2, memo, bindings, live, base);
+        return matching(
+            book,
+            index,
+            r,
+            2,
+            2,
+            doubled,
+            memo,
+            missing,
+            bindings,
+            live,
+            base,
+        );
     }
     if m == EH {
         let n = field_at(book, index, r, 2) as usize;
-        return matching(book, index, r, 3, n, memo, bindings, live, base);
+        return matching(
+            book,
+            index,
+            r,
+            3,
+            n,
+            doubled,
+            memo,
+            missing,
+            bindings,
+            live,
+            base,
+        );
     }
     if m == CK {
         let e = field_at(book, index, r, 1);
-        return expression(book, index, e, memo, bindings, live, base);
+        return expression(book, index, e, doubled, memo, missing, bindings, live, base);
     }
-    row(book, index, r, m, memo, bindings, live, base)
+    row(
+        book,
+        index,
+        r,
+        m,
+        doubled,
+        memo,
+        missing,
+        bindings,
+        live,
+        base,
+    )
 }
 
 // The elements of a record's row.
@@ -166,19 +219,21 @@ fn row(
     index: &[u16],
     r: u16,
     m: u8,
+    doubled: &[u8],
     memo: &mut [u8],
+    missing: &mut [u8],
     bindings: &mut [u16],
     live: usize,
     base: u16,
 ) -> Checked
-    requires { ⌜ Marked (now book) (now index) r m ⌝ ∗ ⌜ Scoped (now book) (now index) (now memo) (now bindings) live base ⌝ ∗ ⌜ Enough (now book) (now index) r live ⌝ }
-    ensures { λ c. ⌜ Stays (now (book .entry)) (now (index .entry)) (rowOf (now (book .entry)) (now (index .entry)) r m (scopeOf (now (book .entry)) (now (index .entry)) (now (bindings .entry)) live base)) live (now (bindings .entry)) c (now (memo .exit)) (now (bindings .exit)) ⌝ }
+    requires { ⌜ Marked (now book) (now index) r m ⌝ ∗ ⌜ Scoped (now book) (now index) (now doubled) (now memo) (now missing) (now bindings) live base ⌝ ∗ ⌜ Enough (now book) (now index) r live ⌝ }
+    ensures { λ c. ⌜ Stays (now (book .entry)) (now (index .entry)) (rowOf (now (book .entry)) (now (index .entry)) r m (scopeOf (now (book .entry)) (now (index .entry)) (now (bindings .entry)) live base)) live (now (bindings .entry)) c (now (memo .exit)) (now (missing .exit)) (now (bindings .exit)) ⌝ }
 {
     let span = span_of(book, index, r, m);
     let mut k: usize = 0;
     while k < span.count {
         let e = field_at(book, index, r, span.from + span.stride * k);
-        match expression(book, index, e, memo, bindings, live, base) {
+        match expression(book, index, e, doubled, memo, missing, bindings, live, base) {
             Checked::Passed => {}
             Checked::Refused(w) => {
                 return Checked::Refused(w);
@@ -196,21 +251,36 @@ fn matching(
     r: u16,
     from: usize,
     n: usize,
+    doubled: &[u8],
     memo: &mut [u8],
+    missing: &mut [u8],
     bindings: &mut [u16],
     live: usize,
     base: u16,
 ) -> Checked
-    requires { ⌜ Arms (now book) (now index) r from n ⌝ ∗ ⌜ Scoped (now book) (now index) (now memo) (now bindings) live base ⌝ ∗ ⌜ Enough (now book) (now index) r live ⌝ }
-    ensures { λ c. ⌜ Stays (now (book .entry)) (now (index .entry)) (matchOf (now (book .entry)) (now (index .entry)) r from n (scopeOf (now (book .entry)) (now (index .entry)) (now (bindings .entry)) live base)) live (now (bindings .entry)) c (now (memo .exit)) (now (bindings .exit)) ⌝ }
+    requires { ⌜ Arms (now book) (now index) r from n ⌝ ∗ ⌜ Scoped (now book) (now index) (now doubled) (now memo) (now missing) (now bindings) live base ⌝ ∗ ⌜ Enough (now book) (now index) r live ⌝ }
+    ensures { λ c. ⌜ Stays (now (book .entry)) (now (index .entry)) (matchOf (now (book .entry)) (now (index .entry)) r from n (scopeOf (now (book .entry)) (now (index .entry)) (now (bindings .entry)) live base)) live (now (bindings .entry)) c (now (memo .exit)) (now (missing .exit)) (now (bindings .exit)) ⌝ }
 {
     let e = field_at(book, index, r, 1);
     let t = type_of(book, index, e);
     if !has_places(book, index, t, n as u32) {
         return agree(false, r);
     }
-    match arms(book, index, r, from, n, t, memo, bindings, live, base) {
-        Checked::Passed => expression(book, index, e, memo, bindings, live, base),
+    match arms(
+        book,
+        index,
+        r,
+        from,
+        n,
+        t,
+        doubled,
+        memo,
+        missing,
+        bindings,
+        live,
+        base,
+    ) {
+        Checked::Passed => expression(book, index, e, doubled, memo, missing, bindings, live, base),
         Checked::Refused(w) => Checked::Refused(w),
     }
 }
@@ -223,18 +293,32 @@ fn arms(
     from: usize,
     n: usize,
     t: u16,
+    doubled: &[u8],
     memo: &mut [u8],
+    missing: &mut [u8],
     bindings: &mut [u16],
     live: usize,
     base: u16,
 ) -> Checked
-    requires { ⌜ Arms (now book) (now index) r from n ⌝ ∗ ⌜ Places (now book) (now index) t n ⌝ ∗ ⌜ Scoped (now book) (now index) (now memo) (now bindings) live base ⌝ ∗ ⌜ Enough (now book) (now index) r live ⌝ }
-    ensures { λ c. ⌜ Stays (now (book .entry)) (now (index .entry)) (armsFrom (now (book .entry)) (now (index .entry)) r from n (typeOf (now (book .entry)) (now (index .entry)) t) (scopeOf (now (book .entry)) (now (index .entry)) (now (bindings .entry)) live base) 0 n) live (now (bindings .entry)) c (now (memo .exit)) (now (bindings .exit)) ⌝ }
+    requires { ⌜ Arms (now book) (now index) r from n ⌝ ∗ ⌜ Places (now book) (now index) t n ⌝ ∗ ⌜ Scoped (now book) (now index) (now doubled) (now memo) (now missing) (now bindings) live base ⌝ ∗ ⌜ Enough (now book) (now index) r live ⌝ }
+    ensures { λ c. ⌜ Stays (now (book .entry)) (now (index .entry)) (armsFrom (now (book .entry)) (now (index .entry)) r from n (typeOf (now (book .entry)) (now (index .entry)) t) (scopeOf (now (book .entry)) (now (index .entry)) (now (bindings .entry)) live base) 0 n) live (now (bindings .entry)) c (now (memo .exit)) (now (missing .exit)) (now (bindings .exit)) ⌝ }
 {
     let mut k: usize = 0;
     while k < n {
         let s = place(book, index, TS, t, n as u32, k as u32);
-        match arm(book, index, r, from + 2 * k, s, memo, bindings, live, base) {
+        match arm(
+            book,
+            index,
+            r,
+            from + 2 * k,
+            s,
+            doubled,
+            memo,
+            missing,
+            bindings,
+            live,
+            base,
+        ) {
             Checked::Passed => {}
             Checked::Refused(w) => {
                 return Checked::Refused(w);
@@ -252,18 +336,42 @@ fn arm(
     r: u16,
     j: usize,
     s: u16,
+    doubled: &[u8],
     memo: &mut [u8],
+    missing: &mut [u8],
     bindings: &mut [u16],
     live: usize,
     base: u16,
 ) -> Checked
-    requires { ⌜ Arm (now book) (now index) r j ⌝ ∗ ⌜ Stands (now book) (now index) s TYPE ⌝ ∗ ⌜ Scoped (now book) (now index) (now memo) (now bindings) live base ⌝ ∗ ⌜ Enough (now book) (now index) r live ⌝ }
-    ensures { λ c. ⌜ Stays (now (book .entry)) (now (index .entry)) (armOf (now (book .entry)) (now (index .entry)) r j (typeOf (now (book .entry)) (now (index .entry)) s) (scopeOf (now (book .entry)) (now (index .entry)) (now (bindings .entry)) live base)) live (now (bindings .entry)) c (now (memo .exit)) (now (bindings .exit)) ⌝ }
+    requires { ⌜ Arm (now book) (now index) r j ⌝ ∗ ⌜ Stands (now book) (now index) s TYPE ⌝ ∗ ⌜ Scoped (now book) (now index) (now doubled) (now memo) (now missing) (now bindings) live base ⌝ ∗ ⌜ Enough (now book) (now index) r live ⌝ }
+    ensures { λ c. ⌜ Stays (now (book .entry)) (now (index .entry)) (armOf (now (book .entry)) (now (index .entry)) r j (typeOf (now (book .entry)) (now (index .entry)) s) (scopeOf (now (book .entry)) (now (index .entry)) (now (bindings .entry)) live base)) live (now (bindings .entry)) c (now (memo .exit)) (now (missing .exit)) (now (bindings .exit)) ⌝ }
 {
     let p = field_at(book, index, r, j);
     let e = field_at(book, index, r, j + 1);
-    match bind(book, index, r, p, s, memo, bindings, live, base) {
-        Checked::Passed => expression(book, index, e, memo, bindings, live + 1, base),
+    match bind(
+        book,
+        index,
+        r,
+        p,
+        s,
+        doubled,
+        memo,
+        missing,
+        bindings,
+        live,
+        base,
+    ) {
+        Checked::Passed => expression(
+            book,
+            index,
+            e,
+            doubled,
+            memo,
+            missing,
+            bindings,
+            live + 1,
+            base,
+        ),
         Checked::Refused(w) => Checked::Refused(w),
     }
 }
@@ -273,20 +381,22 @@ fn block(
     book: &[u8],
     index: &[u16],
     r: u16,
+    doubled: &[u8],
     memo: &mut [u8],
+    missing: &mut [u8],
     bindings: &mut [u16],
     live: usize,
     base: u16,
 ) -> Checked
-    requires { ⌜ Marked (now book) (now index) r EB ⌝ ∗ ⌜ Scoped (now book) (now index) (now memo) (now bindings) live base ⌝ ∗ ⌜ Enough (now book) (now index) r live ⌝ }
-    ensures { λ c. ⌜ Stays (now (book .entry)) (now (index .entry)) (blockOf (now (book .entry)) (now (index .entry)) r (scopeOf (now (book .entry)) (now (index .entry)) (now (bindings .entry)) live base)) live (now (bindings .entry)) c (now (memo .exit)) (now (bindings .exit)) ⌝ }
+    requires { ⌜ Marked (now book) (now index) r EB ⌝ ∗ ⌜ Scoped (now book) (now index) (now doubled) (now memo) (now missing) (now bindings) live base ⌝ ∗ ⌜ Enough (now book) (now index) r live ⌝ }
+    ensures { λ c. ⌜ Stays (now (book .entry)) (now (index .entry)) (blockOf (now (book .entry)) (now (index .entry)) r (scopeOf (now (book .entry)) (now (index .entry)) (now (bindings .entry)) live base)) live (now (bindings .entry)) c (now (memo .exit)) (now (missing .exit)) (now (bindings .exit)) ⌝ }
 {
     let n = field_at(book, index, r, 1) as usize;
     let mut at = live;
     let mut k: usize = 0;
     while k < n {
         let s = field_at(book, index, r, 2 + k);
-        match statement(book, index, s, memo, bindings, at, base) {
+        match stmt(book, index, s, doubled, memo, missing, bindings, at, base) {
             Checked::Passed => {
                 at = entered(book, index, s, at);
             }
@@ -300,7 +410,7 @@ fn block(
     if end == 65535 {
         return Checked::Passed;
     }
-    expression(book, index, end, memo, bindings, at, base)
+    expression(book, index, end, doubled, memo, missing, bindings, at, base)
 }
 
 // How many bindings are live after statement s.
@@ -315,27 +425,41 @@ fn entered(book: &[u8], index: &[u16], s: u16, live: usize) -> usize
 }
 
 // A statement: its expression, and then its binding, or that it is of type unit.
-fn statement(
+fn stmt(
     book: &[u8],
     index: &[u16],
     s: u16,
+    doubled: &[u8],
     memo: &mut [u8],
+    missing: &mut [u8],
     bindings: &mut [u16],
     live: usize,
     base: u16,
 ) -> Checked
-    requires { ⌜ Stands (now book) (now index) s STATEMENT ⌝ ∗ ⌜ Scoped (now book) (now index) (now memo) (now bindings) live base ⌝ ∗ ⌜ Enough (now book) (now index) s live ⌝ }
-    ensures { λ c. ⌜ Stated (now (book .entry)) (now (index .entry)) s live base (now (bindings .entry)) c (now (memo .exit)) (now (bindings .exit)) ⌝ }
+    requires { ⌜ Stands (now book) (now index) s STATEMENT ⌝ ∗ ⌜ Scoped (now book) (now index) (now doubled) (now memo) (now missing) (now bindings) live base ⌝ ∗ ⌜ Enough (now book) (now index) s live ⌝ }
+    ensures { λ c. ⌜ Stated (now (book .entry)) (now (index .entry)) s live base (now (bindings .entry)) c (now (memo .exit)) (now (missing .exit)) (now (bindings .exit)) ⌝ }
 {
     if mark_at(book, index, s) != SA {
-        return does(book, index, s, memo, bindings, live, base);
+        return does(book, index, s, doubled, memo, missing, bindings, live, base);
     }
     let p = field_at(book, index, s, 0);
     let e = field_at(book, index, s, 1);
-    match expression(book, index, e, memo, bindings, live, base) {
+    match expression(book, index, e, doubled, memo, missing, bindings, live, base) {
         Checked::Passed => {
             let t = type_of(book, index, e);
-            bind(book, index, s, p, t, memo, bindings, live, base)
+            bind(
+                book,
+                index,
+                s,
+                p,
+                t,
+                doubled,
+                memo,
+                missing,
+                bindings,
+                live,
+                base,
+            )
         }
         Checked::Refused(w) => Checked::Refused(w),
     }
@@ -346,16 +470,18 @@ fn does(
     book: &[u8],
     index: &[u16],
     s: u16,
+    doubled: &[u8],
     memo: &mut [u8],
+    missing: &mut [u8],
     bindings: &mut [u16],
     live: usize,
     base: u16,
 ) -> Checked
-    requires { ⌜ Stands (now book) (now index) s STATEMENT ⌝ ∗ ⌜ (mark (now book) (now index) s ≡ SA → ⊥) ⌝ ∗ ⌜ Scoped (now book) (now index) (now memo) (now bindings) live base ⌝ ∗ ⌜ Enough (now book) (now index) s live ⌝ }
-    ensures { λ c. ⌜ Stays (now (book .entry)) (now (index .entry)) (statementOf (now (book .entry)) (now (index .entry)) s (scopeOf (now (book .entry)) (now (index .entry)) (now (bindings .entry)) live base)) live (now (bindings .entry)) c (now (memo .exit)) (now (bindings .exit)) ⌝ }
+    requires { ⌜ Stands (now book) (now index) s STATEMENT ⌝ ∗ ⌜ (mark (now book) (now index) s ≡ SA → ⊥) ⌝ ∗ ⌜ Scoped (now book) (now index) (now doubled) (now memo) (now missing) (now bindings) live base ⌝ ∗ ⌜ Enough (now book) (now index) s live ⌝ }
+    ensures { λ c. ⌜ Stays (now (book .entry)) (now (index .entry)) (statementOf (now (book .entry)) (now (index .entry)) s (scopeOf (now (book .entry)) (now (index .entry)) (now (bindings .entry)) live base)) live (now (bindings .entry)) c (now (memo .exit)) (now (missing .exit)) (now (bindings .exit)) ⌝ }
 {
     let e = field_at(book, index, s, 0);
-    match expression(book, index, e, memo, bindings, live, base) {
+    match expression(book, index, e, doubled, memo, missing, bindings, live, base) {
         Checked::Passed => {
             let t = type_of(book, index, e);
             agree(is_unit(book, index, t), s)
@@ -365,9 +491,17 @@ fn does(
 }
 
 // A function: its parameter names, its body in a scope of its parameters only, and what it gives.
-pub fn function(book: &[u8], index: &[u16], f: u16, memo: &mut [u8], bindings: &mut [u16]) -> Checked
-    requires { ⌜ Stands (now book) (now index) f FUNCTION ⌝ ∗ ⌜ Known (now book) (now index) (now memo) ⌝ ∗ ⌜ Room (now bindings) ⌝ }
-    ensures { λ c. ⌜ Stays (now (book .entry)) (now (index .entry)) (checkFun (funOf (now (book .entry)) (now (index .entry)) f)) 0 (now (bindings .entry)) c (now (memo .exit)) (now (bindings .exit)) ⌝ }
+pub fn function(
+    book: &[u8],
+    index: &[u16],
+    f: u16,
+    doubled: &[u8],
+    memo: &mut [u8],
+    missing: &mut [u8],
+    bindings: &mut [u16],
+) -> Checked
+    requires { ⌜ Stands (now book) (now index) f FUNCTION ⌝ ∗ ⌜ Rows (now book) (now index) (now doubled) (now memo) (now missing) (now bindings) ⌝ }
+    ensures { λ c. ⌜ Stays (now (book .entry)) (now (index .entry)) (checkFun (funOf (now (book .entry)) (now (index .entry)) f)) 0 (now (bindings .entry)) c (now (memo .exit)) (now (missing .exit)) (now (bindings .exit)) ⌝ }
 {
     if params_repeat(book, index, f) {
         return Checked::Refused(Refusal {
@@ -377,7 +511,7 @@ pub fn function(book: &[u8], index: &[u16], f: u16, memo: &mut [u8], bindings: &
     }
     let n = field_at(book, index, f, 1) as usize;
     let e = field_at(book, index, f, 2 + 2 * n);
-    match expression(book, index, e, memo, bindings, 0, f) {
+    match expression(book, index, e, doubled, memo, missing, bindings, 0, f) {
         Checked::Passed => agree(type_of(book, index, e) == field_at(book, index, f, 0), f),
         Checked::Refused(w) => Checked::Refused(w),
     }

@@ -1,8 +1,7 @@
 // CHECK: each declared type against the one its parts give.
 ghost use mathlib.Core.Path.{_≡_};
 ghost use Rattle.book.specs.Valid.{Valid};
-ghost use Rattle.shapes.specs.Memos.{Known};
-ghost use Rattle.typing.specs.Cycle.{Room, Stays};
+ghost use Rattle.typing.specs.Cycle.{Rows, Stays};
 ghost use Rattle.typing.specs.Whole.{inOrder, valueAt, functionAt, checking, checkOf};
 use crate::cycle::Checked;
 use crate::cycle::expression;
@@ -15,6 +14,7 @@ use book::format::VALUE;
 use book::format::kind_of;
 use book::read::index_book;
 use book::record::mark_at;
+use shapes::binder::doubles;
 use shapes::part::NONE;
 use shapes::whole::value_agrees;
 
@@ -52,15 +52,36 @@ fn records(book: &[u8], index: &[u16], n: u16) -> Checked
         }
         Checked::Passed => {}
     }
+    let mut doubled = [0u8; 4096];
+    doubles(book, index, n, &mut doubled);
     let mut memo = [0u8; 2097152];
+    let mut missing = [0u8; 4096];
     let mut bindings = [0u16; 130560];
-    match functions(book, index, n, &mut memo, &mut bindings) {
+    match functions(
+        book,
+        index,
+        n,
+        &doubled,
+        &mut memo,
+        &mut missing,
+        &mut bindings,
+    ) {
         Checked::Refused(w) => {
             return Checked::Refused(w);
         }
         Checked::Passed => {}
     }
-    expression(book, index, n - 1, &mut memo, &mut bindings, 0, NONE)
+    expression(
+        book,
+        index,
+        n - 1,
+        &doubled,
+        &mut memo,
+        &mut missing,
+        &mut bindings,
+        0,
+        NONE,
+    )
 }
 
 // The value records in their order.
@@ -84,14 +105,22 @@ fn values(book: &[u8], index: &[u16], n: u16) -> Checked
 }
 
 // The functions in their order, called or not.
-fn functions(book: &[u8], index: &[u16], n: u16, memo: &mut [u8], bindings: &mut [u16]) -> Checked
-    requires { ⌜ Valid (now book) (now index) n ⌝ ∗ ⌜ Known (now book) (now index) (now memo) ⌝ ∗ ⌜ Room (now bindings) ⌝ }
-    ensures { λ c. ⌜ Stays (now (book .entry)) (now (index .entry)) (inOrder (functionAt (now (book .entry)) (now (index .entry))) 0 n) 0 (now (bindings .entry)) c (now (memo .exit)) (now (bindings .exit)) ⌝ }
+fn functions(
+    book: &[u8],
+    index: &[u16],
+    n: u16,
+    doubled: &[u8],
+    memo: &mut [u8],
+    missing: &mut [u8],
+    bindings: &mut [u16],
+) -> Checked
+    requires { ⌜ Valid (now book) (now index) n ⌝ ∗ ⌜ Rows (now book) (now index) (now doubled) (now memo) (now missing) (now bindings) ⌝ }
+    ensures { λ c. ⌜ Stays (now (book .entry)) (now (index .entry)) (inOrder (functionAt (now (book .entry)) (now (index .entry))) 0 n) 0 (now (bindings .entry)) c (now (memo .exit)) (now (missing .exit)) (now (bindings .exit)) ⌝ }
 {
     let mut r: u16 = 0;
     while r < n {
         if kind_of(mark_at(book, index, r)) == FUNCTION {
-            match function(book, index, r, memo, bindings) {
+            match function(book, index, r, doubled, memo, missing, bindings) {
                 Checked::Refused(w) => {
                     return Checked::Refused(w);
                 }
