@@ -21,6 +21,12 @@ use Rattle.typing.specs.Check.{andThen, agree, binds, variantType, check
 use Rattle.typing.specs.declared.cycle.Checked.{Checked}
 use Rattle.typing.specs.declared.cycle.Checked.the-variants.{Passed, Refused}
 
+-- one of a valid book's records
+pub record Among (b i : List ℕ) (r : ℕ) : Type 0 where
+  pub records : ℕ
+  pub valid : Valid b i records
+  pub inside : r < records
+
 -- the rows that a judgement is lent: which patterns have a name twice, which pairs are known to fit, which records were searched in vain, and the live bindings, with room for 256 of them at each of 255 depths
 pub record Rows (b i ds memo ms bs : List ℕ) : Type 0 where
   pub doubled : (n : ℕ) → Valid b i n → Doubled b i n ds
@@ -53,7 +59,7 @@ pub record Holds (b i bs : List ℕ) (n base : ℕ) (sc : List Binding) : Type 0
 -- a binding of pattern p to type t, where n are live
 pub record Bound (b i : List ℕ) (v : Checked) (p t n base : ℕ) (bs : List ℕ) (c : Checked) (memo′ ms′ bs′ : List ℕ) : Type 0 where
   pub stays : Stays b i v n bs c memo′ ms′ bs′
-  pub newer : c ≡ Passed → Holds b i bs′ (suc n) base (binding (patternOf b i p) (typeOf b i t) ∷ scopeOf b i bs n base)
+  pub newer : c ≡ Passed → Holds b i bs′ (n + 1) base (binding (patternOf b i p) (typeOf b i t) ∷ scopeOf b i bs n base)
 
 module _ (b i : List ℕ) where
   -- the elements of a record's row

@@ -39,7 +39,7 @@ pub enum Checked {
 }
 
 // TYPE at a record, unless its types agree.
-fn agree(holds: bool, r: u16) -> Checked
+pub fn agree(holds: bool, r: u16) -> Checked
     ensures { λ c. ⌜ c ≡ agree holds r ⌝ }
 {
     if holds {

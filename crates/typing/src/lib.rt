@@ -1,12 +1,12 @@
 // CHECK: each declared type against the one its parts give.
 ghost use mathlib.Core.Path.{_≡_};
 ghost use Rattle.book.specs.Valid.{Valid};
-ghost use Rattle.typing.specs.Cycle.{Rows, Stays};
+ghost use Rattle.typing.specs.Cycle.{Among, Rows, Stays};
 ghost use Rattle.typing.specs.Whole.{inOrder, valueAt, functionAt, checking, checkOf};
 use crate::cycle::Checked;
+use crate::cycle::agree;
 use crate::cycle::expression;
 use crate::cycle::function;
-use book::fault::Fault;
 use book::fault::ReadAnswer;
 use book::fault::Refusal;
 use book::format::FUNCTION;
@@ -91,17 +91,26 @@ fn values(book: &[u8], index: &[u16], n: u16) -> Checked
 {
     let mut r: u16 = 0;
     while r < n {
-        if kind_of(mark_at(book, index, r)) == VALUE {
-            if !value_agrees(book, index, r) {
-                return Checked::Refused(Refusal {
-                    fault: Fault::Ty,
-                    place: r,
-                });
+        match value_at(book, index, r) {
+            Checked::Refused(w) => {
+                return Checked::Refused(w);
             }
+            Checked::Passed => {}
         }
         r += 1;
     }
     Checked::Passed
+}
+
+// Record r, if it is a value.
+fn value_at(book: &[u8], index: &[u16], r: u16) -> Checked
+    requires { ⌜ Among (now book) (now index) r ⌝ }
+    ensures { λ c. ⌜ c ≡ valueAt (now (book .entry)) (now (index .entry)) r ⌝ }
+{
+    if kind_of(mark_at(book, index, r)) != VALUE {
+        return Checked::Passed;
+    }
+    agree(value_agrees(book, index, r), r)
 }
 
 // The functions in their order, called or not.
@@ -119,15 +128,32 @@ fn functions(
 {
     let mut r: u16 = 0;
     while r < n {
-        if kind_of(mark_at(book, index, r)) == FUNCTION {
-            match function(book, index, r, doubled, memo, missing, bindings) {
-                Checked::Refused(w) => {
-                    return Checked::Refused(w);
-                }
-                Checked::Passed => {}
+        match function_at(book, index, r, doubled, memo, missing, bindings) {
+            Checked::Refused(w) => {
+                return Checked::Refused(w);
             }
+            Checked::Passed => {}
         }
         r += 1;
     }
     Checked::Passed
+}
+
+// Record r, if it is a function.
+fn function_at(
+    book: &[u8],
+    index: &[u16],
+    r: u16,
+    doubled: &[u8],
+    memo: &mut [u8],
+    missing: &mut [u8],
+    bindings: &mut [u16],
+) -> Checked
+    requires { ⌜ Among (now book) (now index) r ⌝ ∗ ⌜ Rows (now book) (now index) (now doubled) (now memo) (now missing) (now bindings) ⌝ }
+    ensures { λ c. ⌜ Stays (now (book .entry)) (now (index .entry)) (functionAt (now (book .entry)) (now (index .entry)) r) 0 (now (bindings .entry)) c (now (memo .exit)) (now (missing .exit)) (now (bindings .exit)) ⌝ }
+{
+    if kind_of(mark_at(book, index, r)) != FUNCTION {
+        return Checked::Passed;
+    }
+    function(book, index, r, doubled, memo, missing, bindings)
 }
