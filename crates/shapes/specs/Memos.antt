@@ -93,6 +93,7 @@ pub record Tallies (b i : List ℕ) (xs ns : List ℕ) (s : Noted) (ns′ ms′ 
 pub record Doubled (b i : List ℕ) (n : ℕ) (ds : List ℕ) : Type 0 where
   pub size : length ds ≡ 4096
   pub is : (r : ℕ) → r < n → kind b i r ≡ PATTERN → getD ds r 0 ≡ pick (twice (names (patternOf b i r))) 1 0
+  pub beyond : (r : ℕ) → n ≤ r → getD ds r 0 ≡ 0
 
 -- the root binding of a scope whose base is x: a function's parameters, or the input
 abbrev pub baseOf : List ℕ → List ℕ → ℕ → List Binding

@@ -15,8 +15,8 @@ use Rattle.book.specs.Valid.{Valid}
 use Rattle.book.specs.Tree.{Stmts, stmtsAt, group, tree, typeOf, patternOf, exprOf}
 use Rattle.parts.specs.Parts.{spanAt}
 use Rattle.shapes.specs.Shapes.{typeIs, hasPlaces}
-use Rattle.shapes.specs.Binders.{Binding, binding}
-use Rattle.shapes.specs.Memos.{Known, Doubled, Live, scopeOf}
+use Rattle.shapes.specs.Binders.{names, twice, Binding, binding}
+use Rattle.shapes.specs.Memos.{Known, Live, scopeOf}
 use Rattle.typing.specs.Check.{andThen, agree, binds, variantType, check, statements}
 use Rattle.typing.specs.declared.cycle.Checked.{Checked}
 use Rattle.typing.specs.declared.cycle.Checked.the-variants.{Passed, Refused}
@@ -29,7 +29,8 @@ pub record Among (b i : List ℕ) (r : ℕ) : Type 0 where
 
 -- the rows that a judgement is lent: which patterns have a name twice, which pairs are known to fit, which records were searched in vain, and the live bindings, with room for 256 of them at each of 255 depths
 pub record Rows (b i ds memo ms bs : List ℕ) : Type 0 where
-  pub doubled : (n : ℕ) → Valid b i n → Doubled b i n ds
+  pub long : length ds ≡ 4096
+  pub doubled : (r : ℕ) → Stands b i r PATTERN → getD ds r 0 ≡ pick (twice (names (patternOf b i r))) 1 0
   pub known : Known b i memo
   pub missing : length ms ≡ 4096
   pub room : length bs ≡ 130560

@@ -1,6 +1,10 @@
 // CHECK: each declared type against the one its parts give.
 ghost use mathlib.Core.Path.{_≡_};
-ghost use Rattle.book.specs.Valid.{Valid};
+ghost use Prim.Native.Nat.{_-_};
+ghost use Rattle.book.specs.Tree.{exprOf};
+ghost use Rattle.book.specs.Valid.{Valid, Tiles};
+ghost use Rattle.shapes.specs.Binders.{rootScope};
+ghost use Rattle.typing.specs.Check.{andThen, check};
 ghost use Rattle.typing.specs.Cycle.{Among, Rows, Stays};
 ghost use Rattle.typing.specs.Whole.{inOrder, valueAt, functionAt, checking, checkOf};
 use crate::cycle::Checked;
@@ -43,7 +47,7 @@ pub fn check(book: &[u8]) -> CheckAnswer
 
 // The records of a book that READ accepts: values, then functions, then the root.
 fn records(book: &[u8], index: &[u16], n: u16) -> Checked
-    requires { ⌜ Valid (now book) (now index) n ⌝ }
+    requires { ⌜ Valid (now book) (now index) n ⌝ ∗ ⌜ Tiles (now book) (now index) n ⌝ }
     ensures { λ c. ⌜ c ≡ checking (now (book .entry)) (now (index .entry)) n ⌝ }
 {
     match values(book, index, n) {
@@ -57,31 +61,36 @@ fn records(book: &[u8], index: &[u16], n: u16) -> Checked
     let mut memo = [0u8; 2097152];
     let mut missing = [0u8; 4096];
     let mut bindings = [0u16; 130560];
-    match functions(
-        book,
-        index,
-        n,
-        &doubled,
-        &mut memo,
-        &mut missing,
-        &mut bindings,
-    ) {
-        Checked::Refused(w) => {
-            return Checked::Refused(w);
-        }
-        Checked::Passed => {}
+    expressions(book, index, n, &doubled, &mut memo, &mut missing, &mut bindings)
+}
+
+// The functions, and then the root.
+fn expressions(
+    book: &[u8],
+    index: &[u16],
+    n: u16,
+    doubled: &[u8],
+    memo: &mut [u8],
+    missing: &mut [u8],
+    bindings: &mut [u16],
+) -> Checked
+    requires { ⌜ Valid (now book) (now index) n ⌝ ∗ ⌜ Rows (now book) (now index) (now doubled) (now memo) (now missing) (now bindings) ⌝ }
+    ensures { λ c. ⌜ c ≡ andThen (inOrder (functionAt (now (book .entry)) (now (index .entry))) 0 n) (check (exprOf (now (book .entry)) (now (index .entry)) (n - 1)) rootScope) ⌝ }
+{
+    match functions(book, index, n, doubled, memo, missing, bindings) {
+        Checked::Passed => expression(
+            book,
+            index,
+            n - 1,
+            doubled,
+            memo,
+            missing,
+            bindings,
+            0,
+            NONE,
+        ),
+        Checked::Refused(w) => Checked::Refused(w),
     }
-    expression(
-        book,
-        index,
-        n - 1,
-        &doubled,
-        &mut memo,
-        &mut missing,
-        &mut bindings,
-        0,
-        NONE,
-    )
 }
 
 // The value records in their order.
