@@ -22,7 +22,7 @@ use Rattle.pattern.specs.declared.Sought.the-variants as answers
 use Rattle.pattern.proofs.Selectors.{seeks-missing}
 
 -- a row of zeros says nothing
-zeros : (n r : ℕ) → _≡_ {A = ℕ} (getD (replicate n 0) r 0) 0
+pub zeros : (n r : ℕ) → _≡_ {A = ℕ} (getD (replicate n 0) r 0) 0
 zeros zero r = refl
 zeros (suc n) zero = refl
 zeros (suc n) (suc r) = zeros n r

@@ -32,12 +32,18 @@ called-row x a h (suc m) = ap (morePats (name (x h))) (called-row x a (h + 2) m)
 
 -- a record's pattern by its mark
 module _ {b i : List ℕ} {p : ℕ} (s : Stands b i p PATTERN) where
-  finds-name : (x : ℕ) → mark b i p ≡ PI → find x (patternOf b i p) ≡ find x (name (field b i p 0))
+  pub finds-name : (x : ℕ) → mark b i p ≡ PI → find x (patternOf b i p) ≡ find x (name (field b i p 0))
   unfolding asPattern
   finds-name x e = ap (λ t. find x (asPattern t)) (stands-tree s PI e)
 
   pub name-lies : (m : ℕ) → m ≡ mark b i p → m ≡ PI → Lies b i p 0
   name-lies m is e = head-lies s PI (sym is ∙ e) 0 tt
+
+  -- what is neither a row nor a name ignores
+  pub ignores : (mark b i p ≡ PT → ⊥) → (mark b i p ≡ PI → ⊥) → mark b i p ≡ PN
+  ignores row one =
+      let t : T (pick (eqb (mark b i p) PT) true (pick (eqb (mark b i p) PI) true (eqb (mark b i p) PN))) = stands-mark s (λ m. pick (eqb m PT) true (pick (eqb m PI) true (eqb m PN))) tt tt in
+      eqb→eq (mark b i p) PN (rw (ne-eqb (mark b i p) PT row, ne-eqb (mark b i p) PI one) at t)
 
   pub finds-row : (x n : ℕ) → mark b i p ≡ PT → n ≡ field b i p 0 → find x (patternOf b i p) ≡ left x 1 (λ j. patternOf b i (field b i p j)) 1 n 0
   unfolding asPattern
@@ -57,11 +63,9 @@ module _ {b i : List ℕ} {p : ℕ} (s : Stands b i p PATTERN) where
   pub row-most : (n : ℕ) → mark b i p ≡ PT → n ≡ field b i p 0 → n ≤ 256
   row-most n e z = rw z (head-most s PT e 0 tt refl)
 
-  finds-none : (x : ℕ) → (mark b i p ≡ PT → ⊥) → (mark b i p ≡ PI → ⊥) → find x (patternOf b i p) ≡ none
+  pub finds-none : (x : ℕ) → (mark b i p ≡ PT → ⊥) → (mark b i p ≡ PI → ⊥) → find x (patternOf b i p) ≡ none
   unfolding asPattern find
-  finds-none x row one =
-      let t : T (pick (eqb (mark b i p) PT) true (pick (eqb (mark b i p) PI) true (eqb (mark b i p) PN))) = stands-mark s (λ m. pick (eqb m PT) true (pick (eqb m PI) true (eqb m PN))) tt tt in
-      ap (λ u. find x (asPattern u)) (stands-tree s PN (eqb→eq (mark b i p) PN (rw (ne-eqb (mark b i p) PT row, ne-eqb (mark b i p) PI one) at t)))
+  finds-none x row one = ap (λ u. find x (asPattern u)) (stands-tree s PN (ignores row one))
 
   -- so a search in it that enters no row: the name is found, or is missing
   module _ (m : ℕ) (is : m ≡ mark b i p) {x : ℕ} {ms : List ℕ} (v : Memo b i x ms) {r : ℕ} {t : List ℕ} {pen : Pen} where

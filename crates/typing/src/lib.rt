@@ -6,6 +6,7 @@ ghost use Rattle.typing.specs.Whole.{inOrder, valueAt, functionAt, check
 use crate::cycle::Checked;
 use crate::cycle::expression;
 use crate::cycle::function;
+use binders::doubles;
 use book::fault::Fault;
 use book::fault::ReadAnswer;
 use book::fault::Refusal;
@@ -14,7 +15,6 @@ use book::format::VALUE;
 use book::format::kind_of;
 use book::read::index_book;
 use book::record::mark_at;
-use shapes::binder::doubles;
 use shapes::part::NONE;
 use shapes::whole::value_agrees;
 

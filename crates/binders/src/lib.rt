@@ -1,5 +1,6 @@
 // Patterns beside types. Patterns share their parts, so that a pattern may have more places than could ever be visited: no record is
 // entered again for what is known of it.
+ghost use mathlib.Core.List.{[], _∷_};
 ghost use mathlib.Core.Path.{_≡_};
 ghost use Prim.Native.Nat.{_<_, _≤_};
 ghost use lib.ListN.{length, replicate};
@@ -10,18 +11,18 @@ ghost use Rattle.book.specs.Valid.{Valid};
 ghost use Rattle.book.specs.Tree.{typeOf, patternOf, funOf};
 ghost use Rattle.pattern.specs.Find.{paramsOf};
 ghost use Rattle.pattern.specs.Seeks.{Memo};
 ghost use Rattle.shapes.specs.Views.{Gives};
-ghost use Rattle.shapes.specs.Binders.{fits, names, paramNames, twice, typeFor, scopeIn};
-ghost use Rattle.shapes.specs.Memos.{powerOf, marked, Known, Marks, Fitted, Sights, Met, Nameless, Notes, Tallies, Doubled, Binds, scopeOf, Live, Newest};
-use crate::part::NONE;
-use crate::part::is_unit;
-use crate::part::place;
+ghost use Rattle.binders.specs.Binders.{fits, names, paramNames, twice, typeFor, scopeIn};
+ghost use Rattle.binders.specs.Memos.{powerOf, marked, Known, Marks, Fitted, Sights, Met, Nameless, Notes, Tallies, Doubled, Binds, scopeOf, Live, Newest};
 use book::format::PI;
 use book::format::PT;
 use book::format::TP;
 use book::record::field_at;
 use book::record::mark_at;
 use named::table::clear;
+use shapes::part::NONE;
+use shapes::part::is_unit;
+use shapes::part::place;
 
 const POWERS: [u8; 8] = [1, 2, 4, 8, 16, 32, 64, 128];
 
@@ -105,7 +106,7 @@ pub enum Noted {
 
 fn note(name: u16, met: &mut [u8]) -> Noted
     requires { ⌜ Met (now met) ⌝ }
-    ensures { λ s. ⌜ Notes name (now (met .entry)) s (now (met .exit)) ⌝ }
+    ensures { λ s. ⌜ Notes (name ∷ []) (now (met .entry)) s (now (met .exit)) ⌝ }
 {
     if met[name as usize] == 1 {
         return Noted::Twice;

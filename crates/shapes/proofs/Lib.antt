@@ -1,0 +1,8 @@
+pub mod Declared
+pub mod Same
+pub mod Sides
+pub mod Places
+mod Ways
+mod Powers
+mod Halves
+mod Lists
