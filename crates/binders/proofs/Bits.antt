@@ -8,9 +8,10 @@ use mathlib.Core.Path.{_≡_, refl, sym, _∙_}
 use native.Mathlib.Omega.{arith}
 use borrow.Author.Tests.{eqb-true, eqb-false}
 use lib.Dec.{T, eqb, ltb, ltb→lt}
-use lib.ListN.{length, getD, set, length-set}
+use lib.ListN.{length, getD, set, replicate, length-set}
 use lib.Seq.{getD-set-same, getD-set-other}
 use Rattle.laws.specs.Table.{pick, both, below, all-below, both-left, both-right}
+use Rattle.pattern.proofs.Memos.{zero-at}
 use Rattle.binders.specs.Memos.{powerOf, bitOf, marked, Marks}
 
 -- two bits are the same
@@ -26,6 +27,11 @@ agree-is false false t = refl
 -- a power is some
 pub power-some : (j : ℕ) → j < 8 → 1 ≤ powerOf j
 power-some j h = ltb→lt 0 (powerOf j) (all-below (λ k. ltb 0 (powerOf k)) 8 tt j h)
+
+-- in a row of zeros no pair is marked
+pub marked-none : (n : ℕ) {memo : List ℕ} (p t : ℕ) → memo ≡ replicate n 0 → marked memo p t ≡ false
+unfolding marked bitOf
+marked-none n p t e = rw (zero-at n e (p * 512 + t / 8)) (agree-is _ _ (all-below (λ j. agree (bitOf 0 j) false) 8 tt (t % 8) (omega arith)))
 
 -- a bit that is not set fits, and no other changes with it
 rule : ℕ → ℕ → ℕ → Bool

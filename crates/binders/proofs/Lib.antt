@@ -1,6 +1,7 @@
 mod Bits
-pub mod Fits
+pub mod Fitting
 mod Names
 mod Tallies
+mod Doubling
 mod Sights
 mod Scopes

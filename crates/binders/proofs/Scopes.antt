@@ -17,7 +17,7 @@ use Rattle.book.proofs.Standing.{stands-few, stands-tree, each-lies, each-stand
 use Rattle.pattern.specs.Find.{find, paramsPattern, paramsOf}
 use Rattle.pattern.proofs.Passes.{name-is, name-not}
 use Rattle.pattern.proofs.Records.{finds-params}
-use Rattle.shapes.specs.Shapes.{products, placeOf, rowType, paramTypes}
+use Rattle.shapes.specs.Shapes.{products, leads, placeOf, rowType, paramTypes}
 use Rattle.shapes.specs.Views.{NONE, Gives, nowhere, record-of}
 use Rattle.shapes.proofs.Places.{places-row}
 use Rattle.binders.specs.Binders.{typeFor, seek, scopeIn}

@@ -7,13 +7,13 @@ use mathlib.Core.Path.{_≡_, refl, sym, ap, _∙_}
 use native.Mathlib.Omega.{arith}
 use borrow.Author.Tests.{eqb-true, eqb-false}
 use lib.Dec.{eqb}
-use lib.ListN.{length, getD, set, replicate, length-set, length-replicate}
+use lib.ListN.{length, getD, set, replicate, length-set}
 use lib.Seq.{getD-set-same, getD-set-other}
 use Rattle.laws.specs.Table.{pick, true-false}
 use Rattle.book.specs.Stands.{Stands}
 use Rattle.book.specs.Tree.{patternOf}
 use Rattle.book.proofs.Standing.{stands-few}
-use Rattle.pattern.proofs.Memos.{zeros}
+use Rattle.pattern.proofs.Memos.{zero-at, zero-size}
 use Rattle.binders.specs.Binders.{names, twice}
 use Rattle.binders.specs.Memos.{Met, Nameless, times, Tally, Notes}
 use Rattle.binders.specs.declared.Noted.{Noted}
@@ -22,15 +22,12 @@ use Rattle.binders.proofs.Names.{times-both, times-one, twice-yes, twic
 
 -- a row of zeros has no name, and knows no record
 module _ (ns : List ℕ) where
-  zero-at : (n : ℕ) → ns ≡ replicate n 0 → (x : ℕ) → getD ns x 0 ≡ 0
-  zero-at n e x = ap (λ l. getD l x 0) e ∙ zeros n x
-
   pub met-none : ns ≡ replicate 65536 0 → Met ns
-  met-none e = record { size = ap length e ∙ length-replicate {A = ℕ} 65536 0; ones = λ x. omega (arith, zero-at 65536 e x) }
+  met-none e = record { size = zero-size 65536 e; ones = λ x. omega (arith, zero-at 65536 e x) }
 
   pub nameless-none : (b i : List ℕ) → ns ≡ replicate 4096 0 → Nameless b i ns
   nameless-none b i e = record {
-    size = ap length e ∙ length-replicate {A = ℕ} 4096 0;
+    size = zero-size 4096 e;
     sound = λ r z. absurd (omega (arith, zero-at 4096 e r));
   }
 
@@ -143,13 +140,13 @@ module _ {xs ns ns′ : List ℕ} {t : Noted} (d : Notes xs ns t ns′) (e : ns 
   unfolding Tally
   notes-twice z =
       let w : Tally xs ns notes.Twice ns′ = rw z at (d .tally) in
-      twice-yes (w .0) xs (omega (arith, w .1, zero-at ns 65536 e (w .0)))
+      twice-yes (w .0) xs (omega (arith, w .1, zero-at 65536 e (w .0)))
 
   pub notes-new-all : t ≡ notes.Named → twice xs ≡ false
   unfolding Tally
   notes-new-all z =
       let w : Tally xs ns notes.Named ns′ = rw z at (d .tally) in
-      twice-no xs (λ x. omega (arith, w .0 .ones x, w .1 x, zero-at ns 65536 e x))
+      twice-no xs (λ x. omega (arith, w .0 .ones x, w .1 x, zero-at 65536 e x))
 
   pub notes-empty : t ≡ notes.Unnamed → twice xs ≡ false
   unfolding Tally twice

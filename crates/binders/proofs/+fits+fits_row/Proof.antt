@@ -10,7 +10,7 @@ use Rattle.book.proofs.Standing.{stands-begins, stands-few}
 use Rattle.pattern.proofs.Records.{row-count, row-lies, row-part}
 use Rattle.binders.specs.Binders.{fits}
 use Rattle.shapes.proofs.Same.{gives-stands}
-use Rattle.binders.proofs.Fits.{Fitting, fitted-other, fitted-known, fitted-empty, fitted-marked, fitting-none, fitting-all, fitting-nowhere, fitting-not, fitting-next}
+use Rattle.binders.proofs.Fitting.{Fitting, fitted-other, fitted-known, fitted-empty, fitted-marked, fitting-none, fitting-all, fitting-nowhere, fitting-not, fitting-next}
 use borrow.Author.Needs.{needs}
 use borrow.Fn.Kinds.{In}
 use borrow.Fn.PlainCycle.{Measures, is, falls, and}

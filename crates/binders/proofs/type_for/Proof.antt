@@ -10,7 +10,10 @@ type-for-spec =
     tie.close
     (tie.spec
     (λ c κs. search needs)
-    (λ c. search newest-found)
-    (λ c. search newest-root)
+    (λ c. search needs)
+    (λ c. (search newest-found, search needs))
+    (λ c. search needs)
+    (λ c. (search newest-root, search needs))
     (λ c κs. search live-function)
-    (λ c. search newest-params))
+    (λ c. search needs)
+    (λ c. (search newest-params, search needs)))

@@ -8,22 +8,32 @@ use mathlib.Core.Option.{some, none}
 use mathlib.Core.Path.{_≡_, refl, sym, ap, _∙_}
 use native.Mathlib.Omega.{arith}
 use borrow.Author.Tests.{eq-eqb, ne-eqb}
-use lib.Dec.{T, eqb}
+use lib.Dec.{eqb}
+use lib.ListN.{replicate}
 use Rattle.laws.specs.Table.{pick, both, true-false}
 use Rattle.simplicity.specs.Types.{Ty, one, same}
 use Rattle.book.specs.Format.{TYPE, PATTERN, PT}
 use Rattle.book.specs.Index.{mark, field}
 use Rattle.book.specs.Stands.{Stands}
-use Rattle.book.specs.Tree.{Pat, patRow, noPats, morePats, asPattern, maker, tree, typeOf, patternOf}
-use Rattle.book.proofs.Standing.{stands-mark, stands-tree, stands-few}
+use Rattle.book.specs.Tree.{Pat, patRow, noPats, morePats, asPattern, typeOf, patternOf}
+use Rattle.book.proofs.Standing.{stands-tree, stands-few}
 use Rattle.book.proofs.Built.{group-next, group-none}
+use Rattle.pattern.proofs.Memos.{zero-size}
 use Rattle.pattern.proofs.Passes.{rowAt, size-row}
-use Rattle.pattern.proofs.Records.{row-most}
+use Rattle.pattern.proofs.Records.{but-row, row-most}
 use Rattle.shapes.specs.Shapes.{products, placeOf}
 use Rattle.binders.specs.Binders.{fits, fitsFrom}
 use Rattle.shapes.specs.Views.{NONE, Gives}
 use Rattle.binders.specs.Memos.{marked, Known, Marks, Fitted}
 use Rattle.shapes.proofs.Same.{gives-none, gives-some}
+use Rattle.binders.proofs.Bits.{marked-none}
+
+-- a row of zeros knows no pair
+pub known-none : (b i memo : List ℕ) → memo ≡ replicate 2097152 0 → Known b i memo
+known-none b i memo e = record {
+  size = zero-size 2097152 e;
+  sound = λ p t h m. absurd (true-false (sym m ∙ marked-none 2097152 p t e));
+}
 
 -- what is marked still fits where a pair that fits was marked
 known-case : {b i memo : List ℕ} {p t q s : ℕ} → Known b i memo → fits (patternOf b i p) (typeOf b i t) ≡ true → s < 4096 → (marked memo q s ≡ true) ⊎ ((q ≡ p) × (s ≡ t)) → fits (patternOf b i q) (typeOf b i s) ≡ true
@@ -32,12 +42,6 @@ known-case k f h (inr e) = rw (e .0, e .1) f
 
 known-more : {b i memo memo′ : List ℕ} {p t : ℕ} → Known b i memo → fits (patternOf b i p) (typeOf b i t) ≡ true → Marks memo p t memo′ → Known b i memo′
 known-more k f m = record { size = m .kept ∙ k .size; sound = λ q s h e. known-case k f h (m .only q s h e) }
-
--- of two tests one holds, and not the first, so the second does
-second : (x y : Bool) → x ≡ false → T (pick x true y) → y ≡ true
-second x true e t = refl
-second true false e t = absurd (true-false e)
-second false false e t = absurd t
 
 -- whether the elements from k on fit, of a row of n whose element at field j is a j
 unfoldable pub fitsLeft : ℕ → (ℕ → Pat) → Ty → ℕ → Bool
@@ -63,10 +67,8 @@ module _ (n : ℕ) (a : ℕ → Pat) (t : Ty) where
 -- a record's pattern by its mark: one that is no row fits every type; a row
 module _ {b i : List ℕ} {p : ℕ} (s : Stands b i p PATTERN) (t : Ty) where
   fits-other : (mark b i p ≡ PT → ⊥) → fits (patternOf b i p) t ≡ true
-  unfolding asPattern fits
-  fits-other other =
-      let f : ℕ → Bool = λ m. fits (asPattern (maker m p (field b i p) (λ k. tree b i (field b i p k)))) t in
-      ap (λ u. fits (asPattern u) t) (stands-tree s (mark b i p) refl) ∙ second (eqb (mark b i p) PT) (f (mark b i p)) (ne-eqb (mark b i p) PT other) (stands-mark s (λ m. pick (eqb m PT) true (f m)) tt tt)
+  unfolding fits
+  fits-other = but-row s (λ q. fits q t) true (λ x. refl) refl
 
   fits-row : (n : ℕ) → mark b i p ≡ PT → n ≡ field b i p 0 → fits (patternOf b i p) t ≡ pick (eqb n 0) (same t one) (fitsLeft n (λ j. patternOf b i (field b i p j)) t 0)
   unfolding asPattern
