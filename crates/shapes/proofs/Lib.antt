@@ -1,6 +1,7 @@
-pub mod Same
-pub mod Places
 pub mod Declared
+pub mod Same
+pub mod Sides
+pub mod Places
 mod Walks
 mod Rows
 mod Constructs

@@ -47,7 +47,7 @@ module _ (b i : List ℕ) (r : ℕ) where
   pub types-at : (n k : ℕ) → types (exprsAt names k n) ≡ typesAt b i r 1 k n
   unfolding types typesAt group
   types-at zero k = refl
-  types-at (suc n) k = ap (_∷_ _) (types-at n (k + 1))
+  types-at (suc n) k = ap₂ _∷_ refl (types-at n (k + 1))
 
   pub arms-at : (n k j : ℕ) → j ≡ k + 1 → armTypes (armsAt names k n) ≡ typesAt b i r 2 j n
   unfolding armTypes typesAt group
@@ -57,12 +57,12 @@ module _ (b i : List ℕ) (r : ℕ) where
   pub params-at : (n k : ℕ) → paramTypes (paramsAt (field b i r) names k n) ≡ takesAt b i r k n
   unfolding paramTypes takesAt group
   params-at zero k = refl
-  params-at (suc n) k = ap (_∷_ _) (params-at n (k + 2))
+  params-at (suc n) k = ap₂ _∷_ refl (params-at n (k + 2))
 
   pub words-at : (n k : ℕ) → areWords (partsAt (field b i r) names k n) ≡ wordsAt b i r k n
   unfolding areWords wordsAt group
   words-at zero k = refl
-  words-at (suc n) k = ap (both _) (words-at n (k + 2))
+  words-at (suc n) k = rw (words-at n (k + 2))
 
   -- how many there are
   pub types-length : (n s k : ℕ) → length (typesAt b i r s k n) ≡ n

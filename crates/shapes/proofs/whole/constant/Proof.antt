@@ -1,20 +1,14 @@
+-- `constant` meets its contract: its value's type and its own are one record's.
+-- Assumes nothing.
+use Rattle.shapes.proofs.Constructs.{constant-is, names, typed-lies, typed-stands}
+use Rattle.shapes.proofs.Same.{types-same}
+use Rattle.shapes.proofs.Walks.{tells}
 use Rattle.shapes.proofs.whole.constant.Statement.{statement}
 use Rattle.shapes.proofs.whole.constant.Tie as tie
-use Rattle.shapes.proofs.whole.constant.Reads as reads
-use Rattle.shapes.proofs.whole.constant.Lts as lts
-use Rattle.book.proofs.record.field_at.Reads as field-at-reads
-
--- src/whole.rt:109:9
-field-at-requires : tie.Need-field-at-requires
-field-at-requires c κs = ?
-
--- src/whole.rt:110:5
-field-at-requires-2 : tie.Need-field-at-requires-2
-field-at-requires-2 c κs = ?
-
--- src/whole.rt:105:1
-returns : tie.Need-returns
-returns c = ?
 
 pub constant-spec : {M : Type 1} → statement M
-constant-spec = tie.close (tie.spec field-at-requires field-at-requires-2 returns)
+constant-spec =
+    tie.close
+    (tie.spec
+    (λ c κs. (typed-lies (c .before .before .pre) 1 tt, names (c .before .before .pre) 1 tt tt))
+    (λ c. tells (constant-is (c .before .before .before .pre) (c .value-type .ensures)) (types-same (c .value-type .ensures .0) (typed-stands (c .before .before .before .pre)))))

@@ -1,32 +1,18 @@
-use borrow.Author.Needs.{needs}
+-- `is_none` meets its contract: a sum has a left side.
+-- Assumes nothing.
+use native.Mathlib.Omega.{arith}
+use Rattle.shapes.proofs.Constructs.{is-none-is, names, there-none, there-some, typed-lies, typed-stands}
+use Rattle.shapes.proofs.Same.{gives-none, gives-some}
+use Rattle.shapes.proofs.Walks.{fails, passes, tells}
 use Rattle.shapes.proofs.whole.is_none.Statement.{statement}
 use Rattle.shapes.proofs.whole.is_none.Tie as tie
-use Rattle.shapes.proofs.whole.is_none.Reads as reads
-use Rattle.shapes.proofs.whole.is_none.Lts as lts
-use Rattle.shapes.proofs.part.is_bit.Reads as is-bit-reads
-use Rattle.shapes.proofs.part.side.Reads as side-reads
-use Rattle.shapes.proofs.whole.part_type.Reads as part-type-reads
-
--- src/whole.rt:282:9
-part-type-requires : tie.Need-part-type-requires
-part-type-requires c κs = ?
-
--- src/whole.rt:283:8
-side-requires : tie.Need-side-requires
-side-requires c κs = search needs
-
--- src/whole.rt:284:9
-returns : tie.Need-returns
-returns c = ?
-
--- src/whole.rt:286:5
-is-bit-requires : tie.Need-is-bit-requires
-is-bit-requires c κs = ?
-
--- src/whole.rt:278:1
-returns-2 : tie.Need-returns-2
-returns-2 c = ?
 
 pub is-none-spec : {M : Type 1} → statement M
 is-none-spec =
-    tie.close (tie.spec part-type-requires side-requires returns is-bit-requires returns-2)
+    tie.close
+    (tie.spec
+    (λ c κs. (typed-lies (c .before .before .pre) 1 tt, names (c .before .before .pre) 1 tt tt))
+    (λ c κs. (c .part-type .ensures .0, (tt, omega arith)))
+    (λ c. fails (is-none-is (c .before .before .before .before .before .pre) (c .before .before .part-type .ensures)) (there-none (gives-none (c .before .side .ensures) (c .if1 .taken))))
+    (λ c κs. typed-stands (c .before .before .before .before .before .pre))
+    (λ c. tells (passes (is-none-is (c .before .before .before .before .before .before .pre) (c .before .before .before .part-type .ensures)) (there-some (gives-some (c .before .before .side .ensures) (c .before .if1 .left)))) (c .is-bit .ensures)))

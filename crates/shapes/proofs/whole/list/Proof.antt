@@ -1,60 +1,23 @@
+-- `list` meets its contract: there is no element type, or the tests are of it.
+-- Assumes nothing.
+use Rattle.shapes.proofs.Constructs.{list-bound, list-is, list-none, typed-lies, typed-stands}
+use Rattle.shapes.proofs.Rows.{span-row}
+use Rattle.shapes.proofs.Same.{gives-none, gives-some, gives-stands}
+use Rattle.shapes.proofs.Walks.{fails, no, passes, tells, yes}
 use borrow.Author.Needs.{needs}
 use Rattle.shapes.proofs.whole.list.Statement.{statement}
 use Rattle.shapes.proofs.whole.list.Tie as tie
-use Rattle.shapes.proofs.whole.list.Reads as reads
-use Rattle.shapes.proofs.whole.list.Lts as lts
-use Rattle.book.proofs.record.field_at.Reads as field-at-reads
-use Rattle.parts.proofs.view.span_of.Reads as span-of-reads
-use Rattle.shapes.proofs.part.element_of.Reads as element-of-reads
-use Rattle.shapes.proofs.part.is_list.Reads as is-list-reads
-use Rattle.shapes.proofs.whole.are_all.Reads as are-all-reads
-
--- src/whole.rt:126:17
-field-at-requires : tie.Need-field-at-requires
-field-at-requires c κs = ?
-
--- src/whole.rt:126:17
-cast-bound : tie.Need-cast-bound
-cast-bound c = search needs
-
--- src/whole.rt:127:9
-element-of-requires : tie.Need-element-of-requires
-element-of-requires c κs = ?
-
--- src/whole.rt:129:9
-returns : tie.Need-returns
-returns c = ?
-
--- src/whole.rt:131:9
-is-list-requires : tie.Need-is-list-requires
-is-list-requires c κs = ?
-
--- src/whole.rt:132:9
-returns-2 : tie.Need-returns-2
-returns-2 c = ?
-
--- src/whole.rt:134:38
-span-of-requires : tie.Need-span-of-requires
-span-of-requires c κs = search needs
-
--- src/whole.rt:134:5
-are-all-requires : tie.Need-are-all-requires
-are-all-requires c κs = ?
-
--- src/whole.rt:122:1
-returns-3 : tie.Need-returns-3
-returns-3 c = ?
 
 pub list-spec : {M : Type 1} → statement M
 list-spec =
     tie.close
     (tie.spec
-    field-at-requires
-    cast-bound
-    element-of-requires
-    returns
-    is-list-requires
-    returns-2
-    span-of-requires
-    are-all-requires
-    returns-3)
+    (λ c κs. c .before .before .pre .marked)
+    (λ c κs. typed-lies (c .before .before .before .pre) 1 tt)
+    (λ c. search needs)
+    (λ c κs. (typed-stands (c .before .before .before .before .pre), list-bound (c .before .before .before .before .pre) (c .field-at .ensures)))
+    (λ c. list-none (c .before .before .before .before .before .before .pre) (c .before .before .field-at .ensures) (gives-none (c .before .element-of .ensures) (c .if1 .taken)))
+    (λ c κs. (typed-stands (c .before .before .before .before .before .before .pre), (gives-stands (c .before .element-of .ensures) (c .if1 .left), list-bound (c .before .before .before .before .before .before .pre) (c .before .before .field-at .ensures))))
+    (λ c. fails (list-is (c .before .before .before .before .before .before .before .before .pre) (c .before .before .before .before .field-at .ensures) (c .before .before .before .before .before .span-of .ensures) (gives-some (c .before .before .before .element-of .ensures) (c .before .before .if1 .left))) (no (c .before .is-list .ensures) (c .if2 .taken)))
+    (λ c κs. (gives-stands (c .before .before .before .element-of .ensures) (c .before .before .if1 .left), span-row (c .before .before .before .before .before .before .before .before .pre .marked) tt (c .before .before .before .before .before .span-of .ensures)))
+    (λ c. tells (passes (list-is (c .before .before .before .before .before .before .before .before .before .pre) (c .before .before .before .before .before .field-at .ensures) (c .before .before .before .before .before .before .span-of .ensures) (gives-some (c .before .before .before .before .element-of .ensures) (c .before .before .before .if1 .left))) (yes (c .before .before .is-list .ensures) (c .before .if2 .left))) (c .are-all .ensures)))

@@ -1,22 +1,15 @@
-use borrow.Author.Needs.{needs}
+-- `tuple` meets its contract: its span is a row.
+-- Assumes nothing.
+use Rattle.shapes.proofs.Constructs.{tuple-is, typed-stands}
+use Rattle.shapes.proofs.Rows.{span-row}
+use Rattle.shapes.proofs.Walks.{tells}
 use Rattle.shapes.proofs.whole.tuple.Statement.{statement}
 use Rattle.shapes.proofs.whole.tuple.Tie as tie
-use Rattle.shapes.proofs.whole.tuple.Reads as reads
-use Rattle.shapes.proofs.whole.tuple.Lts as lts
-use Rattle.parts.proofs.view.span_of.Reads as span-of-reads
-use Rattle.shapes.proofs.whole.is_row.Reads as is-row-reads
-
--- src/whole.rt:118:31
-span-of-requires : tie.Need-span-of-requires
-span-of-requires c κs = search needs
-
--- src/whole.rt:118:5
-is-row-requires : tie.Need-is-row-requires
-is-row-requires c κs = ?
-
--- src/whole.rt:114:1
-returns : tie.Need-returns
-returns c = ?
 
 pub tuple-spec : {M : Type 1} → statement M
-tuple-spec = tie.close (tie.spec span-of-requires is-row-requires returns)
+tuple-spec =
+    tie.close
+    (tie.spec
+    (λ c κs. c .before .before .pre .marked)
+    (λ c κs. (typed-stands (c .before .before .before .pre), span-row (c .before .before .before .pre .marked) tt (c .span-of .ensures)))
+    (λ c. tells (tuple-is (c .before .before .before .before .pre) (c .before .span-of .ensures)) (c .is-row .ensures)))

@@ -1,22 +1,15 @@
-use borrow.Author.Needs.{needs}
+-- `unwrap` meets its contract: the part's side and the declared type are one record's.
+-- Assumes nothing.
+use Rattle.shapes.proofs.Constructs.{typed-stands, unwrap-is, unwrap-part}
+use Rattle.shapes.proofs.Same.{gives-at}
+use Rattle.shapes.proofs.Walks.{tells}
 use Rattle.shapes.proofs.whole.unwrap.Statement.{statement}
 use Rattle.shapes.proofs.whole.unwrap.Tie as tie
-use Rattle.shapes.proofs.whole.unwrap.Reads as reads
-use Rattle.shapes.proofs.whole.unwrap.Lts as lts
-use Rattle.shapes.proofs.part.side.Reads as side-reads
-use Rattle.shapes.proofs.whole.part_type.Reads as part-type-reads
-
--- src/whole.rt:253:9
-part-type-requires : tie.Need-part-type-requires
-part-type-requires c κs = ?
-
--- src/whole.rt:254:5
-side-requires : tie.Need-side-requires
-side-requires c κs = search needs
-
--- src/whole.rt:249:1
-returns : tie.Need-returns
-returns c = ?
 
 pub unwrap-spec : {M : Type 1} → statement M
-unwrap-spec = tie.close (tie.spec part-type-requires side-requires returns)
+unwrap-spec =
+    tie.close
+    (tie.spec
+    (λ c κs. unwrap-part _ (c .before .before .pre .0) (c .before .before .pre .1))
+    (λ c κs. (c .part-type .ensures .0, (tt, c .before .before .before .pre .1)))
+    (λ c. tells (unwrap-is _ (c .before .before .before .before .pre .0) (c .before .before .before .before .pre .1) (c .before .part-type .ensures)) (gives-at (c .side .ensures) (typed-stands (c .before .before .before .before .pre .0)))))
