@@ -5,3 +5,4 @@ pub mod Places
 mod Walks
 mod Rows
 mod Constructs
+mod Functions

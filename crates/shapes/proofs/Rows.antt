@@ -5,12 +5,12 @@ use mathlib.Core.Bool.{Bool, true, false}
 use mathlib.Core.List.{List, [], _∷_}
 use mathlib.Core.Option.{Option, some, none}
 use mathlib.Core.Path.{_≡_, refl, sym, ap, ap₂, _∙_}
-use native.Mathlib.Nat.{mul-suc}
+use native.Mathlib.Nat.{le-trans, mul-le-mul, mul-suc}
 use native.Mathlib.Omega.{arith}
 use lib.Dec.{T}
 use lib.ListN.{length, getD, replicate}
 use Rattle.laws.specs.Table.{both, among, true-false}
-use Rattle.simplicity.specs.Types.{Ty, one, same}
+use Rattle.simplicity.specs.Types.{Ty, one, product, same}
 use Rattle.simplicity.proofs.Safe.{same-is, is-same}
 use Rattle.array.proofs.Rows.{row-none}
 use Rattle.book.specs.Index.{field, Lies}
@@ -25,6 +25,13 @@ use Rattle.shapes.proofs.Places.{row-places, places-row}
 use Rattle.shapes.proofs.Walks.{walk, walk-is, each-walk, walk-each}
 
 module _ {b i : List ℕ} {r : ℕ} where
+  -- the fields of a row are near
+  pub row-near : {s k n j : ℕ} → Row b i r s k n → j < n → s * j ≤ 512
+  row-near {s} {k} {n} {j} w h = le-trans (mul-le-mul (w .near) (less w h)) (omega arith)
+    where
+      less : Row b i r s k n → j < n → j ≤ 256
+      less v o = omega (arith, v .few)
+
   -- the span of a record is a row
   pub span-row : {m : ℕ} {p : Span} → Marked b i r m → T (among rowMarks m) → Spanned b i r m p → Row b i r (p .stride) (p .from) (p .count)
   span-row g t s = record { few = s .few; low = s .low; near = s .near; each = λ j h. (span-lies g t (s .is) j h, span-stands g t (s .is) j h) }
@@ -151,3 +158,8 @@ same-replicate a [] zero e = refl
 same-replicate a [] (suc n) e = absurd (omega arith)
 same-replicate a (t ∷ ts) zero e = absurd (omega arith)
 same-replicate a (t ∷ ts) (suc n) e = ap (both (same t a)) (same-replicate a ts n (omega arith))
+
+-- the row of none is unit
+pub row-unit : {b i : List ℕ} {r s k n : ℕ} → Row b i r s k n → (t : Ty) → n ≡ 0 → same t one ≡ same t (rowType (typesAt b i r s k n))
+unfolding typesAt group
+row-unit w t e = rw (e, row-none one product)

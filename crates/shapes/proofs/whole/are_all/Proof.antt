@@ -1,63 +1,30 @@
+-- `are_all` meets its contract: a loop over the parts.
+-- Assumes nothing.
+use Prim.Native.Nat.{_-_}
+use native.Mathlib.Omega.{arith}
+use Rattle.simplicity.specs.Types.{same}
+use Rattle.book.specs.Tree.{typeOf}
+use Rattle.shapes.proofs.Rows.{all-walk, partAt, row-near}
+use Rattle.shapes.proofs.Same.{types-same}
+use Rattle.shapes.proofs.Walks.{Left, differ, equal, left-end, left-on, left-start, left-stop}
+use Rattle.shapes.specs.Shapes.{allAre}
+use Rattle.shapes.specs.Wholes.{typesAt}
+use borrow.Author.Needs.{needs}
 use Rattle.shapes.proofs.whole.are_all.Statement.{statement}
 use Rattle.shapes.proofs.whole.are_all.Tie as tie
-use Rattle.shapes.proofs.whole.are_all.Reads as reads
-use Rattle.shapes.proofs.whole.are_all.Lts as lts
-use Rattle.shapes.proofs.whole.part_type.Reads as part-type-reads
-
-abbrev Inv-loop : tie.InvT-loop
-Inv-loop book index t r span n k₀ k = ?
-
-abbrev μ-loop : tie.MeasureT-loop
-μ-loop book index t r span n k₀ k = ?
-
--- src/whole.rt:95:5
-loop-holds : tie.Need-loop-holds Inv-loop μ-loop
-loop-holds c = ?
-
--- src/whole.rt:96:50
-mul-part-type : tie.Need-mul-part-type Inv-loop μ-loop
-mul-part-type c = ?
-
--- src/whole.rt:96:38
-add-part-type : tie.Need-add-part-type Inv-loop μ-loop
-add-part-type c = ?
-
--- src/whole.rt:96:12
-part-type-requires : tie.Need-part-type-requires Inv-loop μ-loop
-part-type-requires c κs = ?
-
--- src/whole.rt:97:13
-returns : tie.Need-returns Inv-loop μ-loop
-returns c = ?
-
--- src/whole.rt:99:9
-add-k : tie.Need-add-k Inv-loop μ-loop
-add-k c = ?
-
--- src/whole.rt:95:5
-loop-less : tie.Need-loop-less Inv-loop μ-loop
-loop-less c = ?
-
--- src/whole.rt:95:5
-loop-again : tie.Need-loop-again Inv-loop μ-loop
-loop-again c = ?
-
--- src/whole.rt:89:1
-returns-2 : tie.Need-returns-2 Inv-loop μ-loop
-returns-2 c = ?
 
 pub are-all-spec : {M : Type 1} → statement M
 are-all-spec =
     tie.close
     (tie.spec
-    Inv-loop
-    μ-loop
-    loop-holds
-    mul-part-type
-    add-part-type
-    part-type-requires
-    returns
-    add-k
-    loop-less
-    loop-again
-    returns-2)
+    (λ book index t r span n k₀ k. Left (λ j. same (partAt book index r (span .stride) (span .from) j) (typeOf book index t)) n (allAre (typeOf book index t) (typesAt book index r (span .stride) (span .from) n)) k)
+    (λ book index t r span n k₀ k. n - k)
+    (λ c. left-start (all-walk _ _ _ _ _ _ _))
+    (λ c. omega (arith, row-near (c .before .before .before .before .before .pre .1) (c .before .loop-test .taken)))
+    (λ c. omega (arith, c .before .before .before .before .before .before .pre .1 .low, row-near (c .before .before .before .before .before .before .pre .1) (c .before .before .loop-test .taken)))
+    (λ c κs. (c .before .before .before .before .before .before .pre .1 .each) _ (c .before .before .loop-test .taken))
+    (λ c. left-stop (c .before .before .before .before .before .loop .inv) (c .before .before .before .before .loop-test .taken) (rw (← c .before .part-type .ensures .1) (differ (types-same (c .before .part-type .ensures .0) (c .before .before .before .before .before .before .before .before .pre .0)) (c .if1 .taken))))
+    (λ c. search needs)
+    (λ c. search needs)
+    (λ c. left-on (c .before .before .before .before .before .loop .inv) (c .before .before .before .before .loop-test .taken) (rw (← c .before .part-type .ensures .1) (equal (types-same (c .before .part-type .ensures .0) (c .before .before .before .before .before .before .before .before .pre .0)) (c .if1 .left))))
+    (λ c. left-end (c .before .loop .inv) (c .loop-test .left)))

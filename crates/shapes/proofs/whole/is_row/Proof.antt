@@ -1,90 +1,36 @@
+-- `is_row` meets its contract: no part is unit's row, else a loop over the parts, each at its place.
+-- Assumes nothing.
+use Prim.Native.Nat.{_-_}
+use mathlib.Core.Path.{_∙_}
+use native.Mathlib.Omega.{arith}
+use Rattle.simplicity.specs.Types.{same}
+use Rattle.book.specs.Tree.{typeOf}
+use Rattle.shapes.proofs.Rows.{placeIs, row-near, row-unit, row-walk}
+use Rattle.shapes.proofs.Same.{gives-at}
+use Rattle.shapes.proofs.Walks.{Left, differ, equal, left-end, left-on, left-start, left-stop}
+use Rattle.shapes.specs.Shapes.{rowType}
+use Rattle.shapes.specs.Wholes.{typesAt}
+use borrow.Author.Needs.{needs}
 use Rattle.shapes.proofs.whole.is_row.Statement.{statement}
 use Rattle.shapes.proofs.whole.is_row.Tie as tie
-use Rattle.shapes.proofs.whole.is_row.Reads as reads
-use Rattle.shapes.proofs.whole.is_row.Lts as lts
-use Rattle.shapes.proofs.part.is_unit.Reads as is-unit-reads
-use Rattle.shapes.proofs.part.place.Reads as place-reads
-use Rattle.shapes.proofs.whole.part_type.Reads as part-type-reads
-
-abbrev Inv-loop : tie.InvT-loop
-Inv-loop book index t r span n k₀ k = ?
-
-abbrev μ-loop : tie.MeasureT-loop
-μ-loop book index t r span n k₀ k = ?
-
--- src/whole.rt:75:9
-is-unit-requires : tie.Need-is-unit-requires Inv-loop μ-loop
-is-unit-requires c κs = ?
-
--- src/whole.rt:75:9
-returns : tie.Need-returns Inv-loop μ-loop
-returns c = ?
-
--- src/whole.rt:78:5
-loop-holds : tie.Need-loop-holds Inv-loop μ-loop
-loop-holds c = ?
-
--- src/whole.rt:79:58
-mul-part-type : tie.Need-mul-part-type Inv-loop μ-loop
-mul-part-type c = ?
-
--- src/whole.rt:79:46
-add-part-type : tie.Need-add-part-type Inv-loop μ-loop
-add-part-type c = ?
-
--- src/whole.rt:79:13
-part-type-requires : tie.Need-part-type-requires Inv-loop μ-loop
-part-type-requires c κs = ?
-
--- src/whole.rt:80:38
-cast-place : tie.Need-cast-place Inv-loop μ-loop
-cast-place c = ?
-
--- src/whole.rt:80:48
-cast-place-2 : tie.Need-cast-place-2 Inv-loop μ-loop
-cast-place-2 c = ?
-
--- src/whole.rt:80:12
-place-requires : tie.Need-place-requires Inv-loop μ-loop
-place-requires c κs = ?
-
--- src/whole.rt:81:13
-returns-2 : tie.Need-returns-2 Inv-loop μ-loop
-returns-2 c = ?
-
--- src/whole.rt:83:9
-add-k : tie.Need-add-k Inv-loop μ-loop
-add-k c = ?
-
--- src/whole.rt:78:5
-loop-less : tie.Need-loop-less Inv-loop μ-loop
-loop-less c = ?
-
--- src/whole.rt:78:5
-loop-again : tie.Need-loop-again Inv-loop μ-loop
-loop-again c = ?
-
--- src/whole.rt:69:1
-returns-3 : tie.Need-returns-3 Inv-loop μ-loop
-returns-3 c = ?
 
 pub is-row-spec : {M : Type 1} → statement M
 is-row-spec =
     tie.close
     (tie.spec
-    Inv-loop
-    μ-loop
-    is-unit-requires
-    returns
-    loop-holds
-    mul-part-type
-    add-part-type
-    part-type-requires
-    cast-place
-    cast-place-2
-    place-requires
-    returns-2
-    add-k
-    loop-less
-    loop-again
-    returns-3)
+    (λ book index t r span n k₀ k. Left (placeIs book index r (typeOf book index t) (span .stride) (span .from) n) n (same (typeOf book index t) (rowType (typesAt book index r (span .stride) (span .from) n))) k)
+    (λ book index t r span n k₀ k. n - k)
+    (λ c κs. c .before .before .before .pre .0)
+    (λ c. (c .is-unit .ensures) ∙ row-unit (c .before .before .before .before .pre .1) _ (c .before .if1 .taken))
+    (λ c. left-start (row-walk _ _ _ _ _ _ _ (omega (arith, c .if1 .left))))
+    (λ c. omega (arith, row-near (c .before .before .before .before .before .before .pre .1) (c .before .loop-test .taken)))
+    (λ c. omega (arith, c .before .before .before .before .before .before .before .pre .1 .low, row-near (c .before .before .before .before .before .before .before .pre .1) (c .before .before .loop-test .taken)))
+    (λ c κs. (c .before .before .before .before .before .before .before .pre .1 .each) _ (c .before .before .loop-test .taken))
+    (λ c. omega (arith, c .before .before .before .before .before .before .before .before .pre .1 .few))
+    (λ c. omega (arith, c .before .before .before .before .before .before .before .before .pre .1 .few, c .before .before .before .loop-test .taken))
+    (λ c κs. (c .before .before .before .before .before .before .before .before .pre .0, (tt, (c .before .before .before .loop-test .taken, c .before .before .before .before .before .before .before .before .pre .1 .few))))
+    (λ c. left-stop (c .before .before .before .before .before .before .loop .inv) (c .before .before .before .before .before .loop-test .taken) (rw (← c .before .before .part-type .ensures .1) (differ (gives-at (c .before .place .ensures) (c .before .before .part-type .ensures .0)) (c .if2 .taken))))
+    (λ c. search needs)
+    (λ c. search needs)
+    (λ c. left-on (c .before .before .before .before .before .before .loop .inv) (c .before .before .before .before .before .loop-test .taken) (rw (← c .before .before .part-type .ensures .1) (equal (gives-at (c .before .place .ensures) (c .before .before .part-type .ensures .0)) (c .if2 .left))))
+    (λ c. left-end (c .before .loop .inv) (c .loop-test .left)))
