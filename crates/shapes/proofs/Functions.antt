@@ -5,12 +5,14 @@ use mathlib.Core.Bool.{Bool, true, false}
 use mathlib.Core.List.{List, [], _∷_}
 use mathlib.Core.Path.{_≡_, refl, sym, ap, ap₂, _∙_}
 use native.Mathlib.Omega.{arith}
-use lib.Dec.{T, leb→le}
-use lib.ListN.{length, replicate}
-use Rattle.laws.specs.Table.{both, among, both-right}
+use lib.Dec.{T, leb, leb→le}
+use lib.ListN.{length, replicate, length-replicate}
+use Rattle.laws.specs.Table.{both, among, both-left, both-right}
+use Rattle.array.specs.Split.{topOf, halvings}
 use Rattle.jet.specs.Jets.{jetOf}
+use Rattle.jet.specs.declared.Jet.{Jet}
 use Rattle.simplicity.specs.Types.{Ty, two, power, same}
-use Rattle.book.specs.Format.{inRange, within, powers, powerIn, TYPE, EXPRESSION, FUNCTION, CJ, CF, CQ, CY, CW, CH, FN}
+use Rattle.book.specs.Format.{inRange, within, powers, powerIn, TS, TYPE, EXPRESSION, FUNCTION, CJ, CF, CQ, CY, CW, CH, FN}
 use Rattle.book.specs.Index.{field, Lies}
 use Rattle.book.specs.Stands.{Stands}
 use Rattle.book.specs.Tree.{asExpr, asFun, tree, typeOf, exprOf, funOf, group}
@@ -67,9 +69,9 @@ loops-three w (p ∷ q ∷ n ∷ []) u t a x h = absurd (h refl)
 loops-three w (p ∷ q ∷ n ∷ o ∷ ts) u t a x h = refl
 
 -- a power of two in a range
-power-among : {lo hi x : ℕ} → T (powerIn lo hi x) → T (among powers x)
+power-among : (lo hi x : ℕ) → T (powerIn lo hi x) → T (among powers x)
 unfolding powerIn
-power-among {lo} {hi} {x} t = both-right (within lo hi x) (among powers x) t
+power-among lo hi x t = both-right (within lo hi x) (among powers x) t
 
 module _ {b i : List ℕ} {r t : ℕ} where
   -- a call: its function stands; arguments as many as it takes, and what it gives
@@ -87,3 +89,143 @@ module _ {b i : List ℕ} {r t : ℕ} where
 
       pub call-is : field b i f 1 ≡ n → Tests (whole (exprOf b i r)) (sameAll (typesAt b i r 1 3 n) (takesAt b i f 2 n) ∷ same (typeOf b i t) (typeOf b i (field b i f 0)) ∷ [])
       call-is e = record { is = call-whole ∙ rw (e, ← o) }
+
+  -- a hash of n words, each of which lies, is of a power of two's width, and is an expression
+  pub hash-is : {n : ℕ} → Typed b i r CH t → n ≡ field b i r 2 → Tests (whole (exprOf b i r)) (wordsAt b i r 3 n ∷ same (typeOf b i t) (wordType 256) ∷ [])
+  unfolding whole asExpr
+  hash-is g z = record { is = ap whole (made g) ∙ rw (g .is, z, words-at b i r (field b i r 2) 3) }
+
+module _ {b i : List ℕ} {r : ℕ} (g : Marked b i r CH) {n : ℕ} (z : n ≡ field b i r 2) (k : ℕ) (h : k < n) where
+  pub width-lies : Lies b i r (3 + 2 * k)
+  width-lies = each-lies (g .stands) CH (g .is) (3 + 2 * k) k 0 (omega arith) (omega arith) tt
+
+  pub width-power : {x : ℕ} → x ≡ field b i r (3 + 2 * k) → T (among powers x)
+  unfolding inRange
+  width-power e = rw e (power-among 8 256 _ (each-ranged (g .stands) CH (g .is) (3 + 2 * k) k 0 (omega arith) (omega arith) tt))
+
+  pub word-part : Lies b i r (4 + 2 * k) × Stands b i (field b i r (4 + 2 * k)) EXPRESSION
+  word-part = (each-lies (g .stands) CH (g .is) (4 + 2 * k) k 1 (omega arith) (omega arith) tt, each-stands (g .stands) CH (g .is) (4 + 2 * k) k 1 (omega arith) (omega arith) tt tt)
+
+-- what stands for a fold's accumulator: field a of its function's record
+module _ {b i : List ℕ} {r f t : ℕ} (h : Folding b i r f t) where
+  pub second-lies : Lies b i f 5
+  second-lies = param-lies (h .function) 1 (sym (h .takes)) (omega arith)
+
+  pub second-stands : {a : ℕ} → a ≡ field b i f 5 → Stands b i a TYPE
+  second-stands z = rw z (param-stands (h .function) 1 (sym (h .takes)) (omega arith))
+
+  pub accumulates-is : {a : ℕ} → a ≡ field b i f 5 → Tests (accumulates b i r f t) (same (typeIs (exprOf b i (field b i r 4))) (typeOf b i a) ∷ same (typeOf b i t) (typeOf b i a) ∷ same (typeOf b i (field b i f 0)) (typeOf b i a) ∷ [])
+  unfolding accumulates
+  accumulates-is z = record { is = rw z }
+
+-- folds, over lists and over arrays: the function takes two, or there is no type that fits
+module _ {b i : List ℕ} {f : ℕ} (s : Stands b i f FUNCTION) (over : Ty → Ty) where
+  folds-none : (u e a : Ty) → (field b i f 1 ≡ 2 → ⊥) → folds over (takes (funOf b i f)) (gives (funOf b i f)) u e a ≡ false
+  folds-none u e a h = folds-two over (takes (funOf b i f)) _ u e a (λ z. h (sym (takes-length b i f (field b i f 1) 2) ∙ ap length (sym (takes-are s)) ∙ z))
+
+  folds-is : (r t : ℕ) (e : Ty) → field b i f 1 ≡ 2 → folds over (takes (funOf b i f)) (gives (funOf b i f)) (typeOf b i t) e (typeIs (exprOf b i (field b i r 4))) ≡ both (same e (over (typeOf b i (field b i f 3)))) (accumulates b i r f t)
+  unfolding folds accumulates takesAt group
+  folds-is r t e h = rw (takes-are s, h, gives-is s)
+
+module _ {b i : List ℕ} {r t f : ℕ} (z : f ≡ field b i r 1) where
+  -- a list fold
+  module _ (g : Typed b i r CQ t) where
+    pub list-function : Stands b i f FUNCTION
+    list-function = rw z (names g 1 tt tt)
+
+    pub list-few : (field b i f 1 ≡ 2 → ⊥) → false ≡ whole (exprOf b i r)
+    unfolding whole asExpr
+    list-few h = sym (ap whole (made g) ∙ rw (← z) (folds-none list-function (λ x. listType x (field b i r 2)) _ _ _ h))
+
+    pub list-folding : field b i f 1 ≡ 2 → Folding b i r f t
+    list-folding e = record { lies = typed-lies g 4 tt; start = names g 4 tt tt; function = list-function; takes = e; type = typed-stands g }
+
+    pub list-fold-is : {n x p : ℕ} → field b i f 1 ≡ 2 → n ≡ field b i r 2 → x ≡ field b i f 3 → Part b i r 3 p → Tests (whole (exprOf b i r)) (same (typeOf b i p) (listType (typeOf b i x) n) ∷ accumulates b i r f t ∷ [])
+    unfolding whole asExpr
+    list-fold-is e o w q = record { is = ap whole (made g) ∙ rw (← z, ← g .is, folds-is list-function (λ y. listType y (field b i r 2)) r t (typeIs (exprOf b i (field b i r 3))) e, q .1, w, o) }
+
+    pub fold-bound : {n : ℕ} → n ≡ field b i r 2 → Bound n
+    unfolding inRange
+    fold-bound o = rw o (ranged g 2 tt)
+
+  -- an array fold
+  module _ (g : Typed b i r CY t) where
+    pub array-function : Stands b i f FUNCTION
+    array-function = rw z (names g 1 tt tt)
+
+    pub array-few : (field b i f 1 ≡ 2 → ⊥) → false ≡ whole (exprOf b i r)
+    unfolding whole asExpr
+    array-few h = sym (ap whole (made g) ∙ rw (← z) (folds-none array-function (λ x. arrayType x (field b i r 2)) _ _ _ h))
+
+    pub array-folding : field b i f 1 ≡ 2 → Folding b i r f t
+    array-folding e = record { lies = typed-lies g 4 tt; start = names g 4 tt tt; function = array-function; takes = e; type = typed-stands g }
+
+    pub array-fold-is : {n x p : ℕ} → field b i f 1 ≡ 2 → n ≡ field b i r 2 → x ≡ field b i f 3 → Part b i r 3 p → Tests (whole (exprOf b i r)) (same (typeOf b i p) (arrayType (typeOf b i x) n) ∷ accumulates b i r f t ∷ [])
+    unfolding whole asExpr
+    array-fold-is e o w q = record { is = ap whole (made g) ∙ rw (← z, ← g .is, folds-is array-function (λ y. arrayType y (field b i r 2)) r t (typeIs (exprOf b i (field b i r 3))) e, q .1, w, o) }
+
+    pub fold-size : {n : ℕ} → n ≡ field b i r 2 → (1 ≤ n) × (n ≤ 256)
+    unfolding inRange within
+    fold-size {n} o =
+        let w : T (within 1 256 (field b i r 2)) = ranged g 2 tt in
+        rw o (leb→le 1 _ (both-left (leb 1 (field b i r 2)) _ w), leb→le _ 256 (both-right (leb 1 (field b i r 2)) _ w))
+
+  -- a loop
+  module _ (g : Typed b i r CW t) where
+    pub loop-function : Stands b i f FUNCTION
+    loop-function = rw z (names g 1 tt tt)
+
+    pub loop-few : (field b i f 1 ≡ 3 → ⊥) → false ≡ whole (exprOf b i r)
+    unfolding whole asExpr
+    loop-few h = sym (ap whole (made g) ∙ rw (← z) (loops-three _ (takes (funOf b i f)) _ _ _ _ (λ e. h (sym (takes-length b i f (field b i f 1) 2) ∙ ap length (sym (takes-are loop-function)) ∙ e))))
+
+    pub loop-is : {w a x y : ℕ} → field b i f 1 ≡ 3 → w ≡ field b i r 2 → a ≡ field b i f 3 → x ≡ field b i f 5 → y ≡ field b i f 7 → Tests (whole (exprOf b i r)) (same (typeOf b i y) (wordType w) ∷ same (typeIs (exprOf b i (field b i r 3))) (typeOf b i a) ∷ same (typeIs (exprOf b i (field b i r 4))) (typeOf b i x) ∷ isAt (sideIs TS 1 (typeOf b i t)) (typeOf b i a) ∷ same (typeOf b i (field b i f 0)) (typeOf b i t) ∷ [])
+    unfolding whole asExpr loops takesAt group
+    loop-is e o p q u = record { is = ap whole (made g) ∙ rw (← z, ← g .is, takes-are loop-function, e, gives-is loop-function, o, p, q, u) }
+
+    pub loop-power : {w : ℕ} → w ≡ field b i r 2 → T (among powers w)
+    unfolding inRange
+    loop-power o = rw o (power-among 1 16 _ (ranged g 2 tt))
+
+-- the jets that a book names: how many arguments, each a word, and what they give
+pub record Usual (j : ℕ) : Type 0 where
+  pub some : 0 < jetOf j .arguments
+  pub word : T (among powers (jetOf j .input / jetOf j .arguments))
+  pub result : T (among (0 ∷ 1 ∷ 9 ∷ []) (jetOf j .output))
+  pub takes : jetTakes j ≡ replicate (jetOf j .arguments) (wordType (jetOf j .input / jetOf j .arguments))
+  pub gives : jetGives j ≡ resultType (jetOf j .output)
+
+usual : (j : ℕ) → j ≤ 2 → Usual j
+unfolding resultType power topOf halvings
+usual zero h = record { some = omega arith; word = tt; result = tt; takes = refl; gives = refl }
+usual (suc zero) h = record { some = omega arith; word = tt; result = tt; takes = refl; gives = refl }
+usual (suc (suc zero)) h = record { some = omega arith; word = tt; result = tt; takes = refl; gives = refl }
+usual (suc (suc (suc j))) h = absurd (omega arith)
+
+-- a jet j, which q is
+module _ {b i : List ℕ} {r t j : ℕ} (g : Typed b i r CJ t) (z : j ≡ field b i r 2) where
+  pub jet-number : j ≤ 2
+  unfolding inRange
+  jet-number = rw z (leb→le (field b i r 2) 2 (ranged g 2 tt))
+
+  module _ {q : Jet} (e : q ≡ jetOf j) where
+    pub jet-some : 0 < q .arguments
+    jet-some = rw e (usual j jet-number .some)
+
+    pub jet-word : T (among powers (q .input / q .arguments))
+    jet-word = rw e (usual j jet-number .word)
+
+    pub jet-result : T (among (0 ∷ 1 ∷ 9 ∷ []) (q .output))
+    jet-result = rw e (usual j jet-number .result)
+
+    -- as many arguments, each of them the word, and what it gives
+    jet-whole : whole (exprOf b i r) ≡ both (sameAll (typesAt b i r 1 4 (field b i r 3)) (replicate (q .arguments) (wordType (q .input / q .arguments)))) (same (typeOf b i t) (resultType (q .output)))
+    unfolding whole asExpr
+    jet-whole = ap whole (made g) ∙ rw (← z, ← g .is, types-at b i r (field b i r 3) 4, e, usual j jet-number .takes, usual j jet-number .gives)
+
+    pub jet-few : {n : ℕ} → n ≡ field b i r 3 → (n ≡ q .arguments → ⊥) → false ≡ whole (exprOf b i r)
+    jet-few o h = sym (jet-whole ∙ rw (same-length _ _ (λ w. h (o ∙ sym (types-length b i r (field b i r 3) 1 4) ∙ w ∙ length-replicate (q .arguments) _))))
+
+    pub jet-is : {n : ℕ} {p : Span} → n ≡ field b i r 3 → n ≡ q .arguments → Spanned b i r CJ p → Tests (whole (exprOf b i r)) (allAre (wordType (q .input / q .arguments)) (typesAt b i r (p .stride) (p .from) (p .count)) ∷ same (typeOf b i t) (resultType (q .output)) ∷ [])
+    unfolding spanAt
+    jet-is o w s = record { is = jet-whole ∙ rw (s .is, same-replicate (wordType (q .input / q .arguments)) (typesAt b i r 1 4 (field b i r 3)) (q .arguments) (types-length b i r (field b i r 3) 1 4 ∙ sym o ∙ w)) }

@@ -386,16 +386,19 @@ fn for_while(book: &[u8], index: &[u16], r: u16, t: u16) -> bool
         return false;
     }
     let width = field_at(book, index, r, 2) as u32;
-    if !is_word(book, index, field_at(book, index, f, 7), width) {
+    let accumulator = field_at(book, index, f, 3);
+    let context = field_at(book, index, f, 5);
+    let counter = field_at(book, index, f, 7);
+    if !is_word(book, index, counter, width) {
         return false;
     }
-    if part_type(book, index, r, 3) != field_at(book, index, f, 3) {
+    if part_type(book, index, r, 3) != accumulator {
         return false;
     }
-    if part_type(book, index, r, 4) != field_at(book, index, f, 5) {
+    if part_type(book, index, r, 4) != context {
         return false;
     }
-    if side(book, index, TS, t, 1) != field_at(book, index, f, 3) {
+    if side(book, index, TS, t, 1) != accumulator {
         return false;
     }
     field_at(book, index, f, 0) == t
