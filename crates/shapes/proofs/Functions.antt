@@ -1,27 +1,30 @@
 -- What a call, a fold, a loop, a hash and a jet ask of their declared types, by the fields of their records and of their function's.
 -- Assumes nothing.
-use Prim.Native.Nat.{ℕ, zero, suc, _+_, _*_, _/_, _≤_, _<_}
+use Prim.Native.Nat.{ℕ, zero, suc, _+_, _-_, _*_, _/_, _≤_, _<_}
 use mathlib.Core.Bool.{Bool, true, false}
 use mathlib.Core.List.{List, [], _∷_}
 use mathlib.Core.Path.{_≡_, refl, sym, ap, ap₂, _∙_}
 use native.Mathlib.Omega.{arith}
+use borrow.Author.Tests.{ne-eqb}
 use lib.Dec.{T, leb, leb→le}
 use lib.ListN.{length, replicate, length-replicate}
-use Rattle.laws.specs.Table.{both, among, both-left, both-right}
+use Rattle.laws.specs.Table.{both, among, both-left, both-right, _also_, every}
 use Rattle.array.specs.Split.{topOf, halvings}
 use Rattle.jet.specs.Jets.{jetOf}
 use Rattle.jet.specs.declared.Jet.{Jet}
-use Rattle.simplicity.specs.Types.{Ty, two, power, same}
-use Rattle.book.specs.Format.{inRange, within, powers, powerIn, TS, TYPE, EXPRESSION, FUNCTION, CJ, CF, CQ, CY, CW, CH, FN}
-use Rattle.book.specs.Index.{field, Lies}
+use Rattle.simplicity.specs.Types.{Ty, one, product, two, power, same}
+use Rattle.book.specs.Format.{inRange, within, powers, powerIn, TS, TP, TYPE, EXPRESSION, FUNCTION, CJ, CF, CQ, CY, CW, CH, FN}
+use Rattle.book.specs.Index.{mark, field, Lies}
 use Rattle.book.specs.Stands.{Stands}
 use Rattle.book.specs.Tree.{asExpr, asFun, tree, typeOf, exprOf, funOf, group}
 use Rattle.book.proofs.Standing.{stands-tree, head-lies, head-stands, each-lies, each-stands, each-ranged, function-mark}
 use Rattle.parts.specs.Parts.{Marked, Spanned, spanAt}
 use Rattle.parts.specs.declared.view.Span.{Span}
+use Rattle.parts.proofs.Marks.{most}
 use Rattle.shapes.specs.Shapes.{typeIs, takes, gives, arrayType, listType, wordType, sums, sideOf, isAt, allAre, sameAll, folds, loops, jetTakes, jetGives, whole}
 use Rattle.shapes.specs.Views.{Bound, sideIs}
-use Rattle.shapes.specs.Wholes.{Typed, Folding, typesAt, takesAt, wordsAt, accumulates, resultType}
+use Rattle.shapes.specs.Wholes.{Row, Typed, Folding, typesAt, takesAt, wordsAt, accumulates, resultType}
+use Rattle.shapes.proofs.Sides.{same-not, same-product}
 use Rattle.shapes.proofs.Walks.{Tests}
 use Rattle.shapes.proofs.Rows.{types-at, params-at, words-at, types-length, takes-length, same-length, same-replicate}
 use Rattle.shapes.proofs.Constructs.{Is, Part, made, names, ranged, typed-lies, typed-stands}
@@ -43,6 +46,9 @@ module _ {b i : List ℕ} {f : ℕ} (s : Stands b i f FUNCTION) where
   pub param-stands : {n : ℕ} (k : ℕ) → n ≡ field b i f 1 → k < n → Stands b i (field b i f (3 + 2 * k)) TYPE
   param-stands k e h = each-stands s FN (function-mark s) (3 + 2 * k) k 1 (omega arith) (omega arith) tt tt
 
+  pub param-at : {n x : ℕ} (k : ℕ) → n ≡ field b i f 1 → k < n → x ≡ field b i f (3 + 2 * k) → Stands b i x TYPE
+  param-at k e h z = rw z (param-stands k e h)
+
   -- what it takes and gives
   takes-are : takes (funOf b i f) ≡ takesAt b i f 2 (field b i f 1)
   unfolding takes asFun
@@ -51,6 +57,10 @@ module _ {b i : List ℕ} {f : ℕ} (s : Stands b i f FUNCTION) where
   gives-is : gives (funOf b i f) ≡ typeOf b i (field b i f 0)
   unfolding gives asFun
   gives-is = ap (λ x. gives (asFun x)) (stands-tree s FN (function-mark s))
+
+-- argument k of a call
+pub argument : {b i : List ℕ} {r k n j : ℕ} → Row b i r 1 k n → j < n → Lies b i r (k + j) × Stands b i (field b i r (k + j)) EXPRESSION
+argument {j = j} w h = let z : 1 * j ≡ j = omega arith in rw z at (w .each j h)
 
 -- a fold's function takes two, a loop's three
 folds-two : (over : Ty → Ty) (ts : List Ty) (u t e a : Ty) → (length ts ≡ 2 → ⊥) → folds over ts u t e a ≡ false
@@ -74,7 +84,14 @@ unfolding powerIn
 power-among lo hi x t = both-right (within lo hi x) (among powers x) t
 
 module _ {b i : List ℕ} {r t : ℕ} where
-  -- a call: its function stands; arguments as many as it takes, and what it gives
+  -- a call: its arguments are a row
+  pub call-row : {n : ℕ} → Typed b i r CF t → n ≡ field b i r 2 → Row b i r 1 3 n
+  call-row {n} g o = record { few = rw o (most (g .marked) 2 tt refl); low = omega arith; near = omega arith; each = each }
+    where
+      each : (j : ℕ) → j < n → Lies b i r (3 + 1 * j) × Stands b i (field b i r (3 + 1 * j)) EXPRESSION
+      each j h = (each-lies (g .marked .stands) CF (g .marked .is) (3 + 1 * j) j 0 (omega arith) (omega arith) tt, each-stands (g .marked .stands) CF (g .marked .is) (3 + 1 * j) j 0 (omega arith) (omega arith) tt tt)
+
+  -- its function stands; arguments as many as it takes, and what it gives
   module _ (g : Typed b i r CF t) {f : ℕ} (z : f ≡ field b i r 1) where
     pub call-function : Stands b i f FUNCTION
     call-function = rw z (names g 1 tt tt)
@@ -94,6 +111,10 @@ module _ {b i : List ℕ} {r t : ℕ} where
   pub hash-is : {n : ℕ} → Typed b i r CH t → n ≡ field b i r 2 → Tests (whole (exprOf b i r)) (wordsAt b i r 3 n ∷ same (typeOf b i t) (wordType 256) ∷ [])
   unfolding whole asExpr
   hash-is g z = record { is = ap whole (made g) ∙ rw (g .is, z, words-at b i r (field b i r 2) 3) }
+
+-- which are not many
+pub hash-most : {b i : List ℕ} {r n : ℕ} → Marked b i r CH → n ≡ field b i r 2 → n ≤ 256
+hash-most g z = rw z (most g 2 tt refl)
 
 module _ {b i : List ℕ} {r : ℕ} (g : Marked b i r CH) {n : ℕ} (z : n ≡ field b i r 2) (k : ℕ) (h : k < n) where
   pub width-lies : Lies b i r (3 + 2 * k)
@@ -187,6 +208,10 @@ module _ {b i : List ℕ} {r t f : ℕ} (z : f ≡ field b i r 1) where
     unfolding inRange
     loop-power o = rw o (power-among 1 16 _ (ranged g 2 tt))
 
+-- powers of two are not great
+power-most : (x : ℕ) → T (among powers x) → x ≤ 256
+power-most = every powers (λ x. x ≤ 256) (omega arith also omega arith also omega arith also omega arith also omega arith also omega arith also omega arith also omega arith also omega arith also tt)
+
 -- the jets that a book names: how many arguments, each a word, and what they give
 pub record Usual (j : ℕ) : Type 0 where
   pub some : 0 < jetOf j .arguments
@@ -215,6 +240,9 @@ module _ {b i : List ℕ} {r t j : ℕ} (g : Typed b i r CJ t) (z : j ≡ field 
     pub jet-word : T (among powers (q .input / q .arguments))
     jet-word = rw e (usual j jet-number .word)
 
+    pub jet-bits : q .input / q .arguments ≤ 256
+    jet-bits = power-most (q .input / q .arguments) jet-word
+
     pub jet-result : T (among (0 ∷ 1 ∷ 9 ∷ []) (q .output))
     jet-result = rw e (usual j jet-number .result)
 
@@ -229,3 +257,26 @@ module _ {b i : List ℕ} {r t j : ℕ} (g : Typed b i r CJ t) (z : j ≡ field 
     pub jet-is : {n : ℕ} {p : Span} → n ≡ field b i r 3 → n ≡ q .arguments → Spanned b i r CJ p → Tests (whole (exprOf b i r)) (allAre (wordType (q .input / q .arguments)) (typesAt b i r (p .stride) (p .from) (p .count)) ∷ same (typeOf b i t) (resultType (q .output)) ∷ [])
     unfolding spanAt
     jet-is o w s = record { is = jet-whole ∙ rw (s .is, same-replicate (wordType (q .input / q .arguments)) (typesAt b i r 1 4 (field b i r 3)) (q .arguments) (types-length b i r (field b i r 3) 1 4 ∙ sym o ∙ w)) }
+
+-- what a jet gives is unit, a bit, or a carry beside a word
+pub result-unit : {bits : ℕ} (t : Ty) → bits ≡ 0 → same t one ≡ same t (resultType bits)
+unfolding resultType
+result-unit t e = rw e
+
+pub result-bit : {bits : ℕ} (t : Ty) → bits ≡ 1 → same t two ≡ same t (resultType bits)
+unfolding resultType
+result-bit t e = rw e
+
+pub result-power : (bits : ℕ) → T (among (0 ∷ 1 ∷ 9 ∷ []) bits) → (bits ≡ 0 → ⊥) → (bits ≡ 1 → ⊥) → T (among powers (bits - 1))
+result-power bits t u v = every (0 ∷ 1 ∷ 9 ∷ []) (λ k. (k ≡ 0 → ⊥) → (k ≡ 1 → ⊥) → T (among powers (k - 1))) ((λ p q. absurd (p refl)) also (λ p q. absurd (q refl)) also (λ p q. tt) also tt) bits t u v
+
+module _ {b i : List ℕ} {t bits m : ℕ} (s : Stands b i t TYPE) (u : bits ≡ 0 → ⊥) (v : bits ≡ 1 → ⊥) (e : m ≡ mark b i t) where
+  result-product : resultType bits ≡ product two (wordType (bits - 1))
+  unfolding resultType
+  result-product = rw (ne-eqb bits 0 u, ne-eqb bits 1 v)
+
+  pub result-not : (m ≡ TP → ⊥) → false ≡ same (typeOf b i t) (resultType bits)
+  result-not h = rw result-product (sym (same-not s e (product two (wordType (bits - 1))) refl h))
+
+  pub result-is : {x y : ℕ} → m ≡ TP → x ≡ field b i t 0 → y ≡ field b i t 1 → Tests (same (typeOf b i t) (resultType bits)) (same (typeOf b i x) two ∷ same (typeOf b i y) (wordType (bits - 1)) ∷ [])
+  result-is q o w = record { is = rw (result-product, o, w) (same-product s e q two (wordType (bits - 1))) }

@@ -6,3 +6,4 @@ mod Walks
 mod Rows
 mod Constructs
 mod Functions
+mod Marks

@@ -1,74 +1,34 @@
+-- `are_taken` meets its contract: a loop over the arguments.
+-- Assumes nothing.
+use Prim.Native.Nat.{_*_, _+_, _-_}
+use native.Mathlib.Omega.{arith}
+use Rattle.simplicity.specs.Types.{same}
+use Rattle.book.specs.Index.{field}
+use Rattle.book.specs.Tree.{exprOf, typeOf}
+use Rattle.shapes.proofs.Functions.{argument, param-at, param-lies}
+use Rattle.shapes.proofs.Rows.{taken-walk}
+use Rattle.shapes.proofs.Same.{types-same}
+use Rattle.shapes.proofs.Walks.{Left, differ, equal, left-end, left-on, left-start, left-stop}
+use Rattle.shapes.specs.Shapes.{sameAll, typeIs}
+use Rattle.shapes.specs.Wholes.{takesAt, typesAt}
+use borrow.Author.Needs.{needs}
 use Rattle.shapes.proofs.whole.are_taken.Statement.{statement}
 use Rattle.shapes.proofs.whole.are_taken.Tie as tie
-use Rattle.shapes.proofs.whole.are_taken.Reads as reads
-use Rattle.shapes.proofs.whole.are_taken.Lts as lts
-use Rattle.book.proofs.record.field_at.Reads as field-at-reads
-use Rattle.shapes.proofs.whole.part_type.Reads as part-type-reads
-
-abbrev Inv-loop : tie.InvT-loop
-Inv-loop book index r f n k₀ k = ?
-
-abbrev μ-loop : tie.MeasureT-loop
-μ-loop book index r f n k₀ k = ?
-
--- src/whole.rt:303:5
-loop-holds : tie.Need-loop-holds Inv-loop μ-loop
-loop-holds c = ?
-
--- src/whole.rt:304:38
-add-part-type : tie.Need-add-part-type Inv-loop μ-loop
-add-part-type c = ?
-
--- src/whole.rt:304:12
-part-type-requires : tie.Need-part-type-requires Inv-loop μ-loop
-part-type-requires c κs = ?
-
--- src/whole.rt:304:77
-mul-field-at : tie.Need-mul-field-at Inv-loop μ-loop
-mul-field-at c = ?
-
--- src/whole.rt:304:73
-add-field-at : tie.Need-add-field-at Inv-loop μ-loop
-add-field-at c = ?
-
--- src/whole.rt:304:48
-field-at-requires : tie.Need-field-at-requires Inv-loop μ-loop
-field-at-requires c κs = ?
-
--- src/whole.rt:305:13
-returns : tie.Need-returns Inv-loop μ-loop
-returns c = ?
-
--- src/whole.rt:307:9
-add-k : tie.Need-add-k Inv-loop μ-loop
-add-k c = ?
-
--- src/whole.rt:303:5
-loop-less : tie.Need-loop-less Inv-loop μ-loop
-loop-less c = ?
-
--- src/whole.rt:303:5
-loop-again : tie.Need-loop-again Inv-loop μ-loop
-loop-again c = ?
-
--- src/whole.rt:298:1
-returns-2 : tie.Need-returns-2 Inv-loop μ-loop
-returns-2 c = ?
 
 pub are-taken-spec : {M : Type 1} → statement M
 are-taken-spec =
     tie.close
     (tie.spec
-    Inv-loop
-    μ-loop
-    loop-holds
-    add-part-type
-    part-type-requires
-    mul-field-at
-    add-field-at
-    field-at-requires
-    returns
-    add-k
-    loop-less
-    loop-again
-    returns-2)
+    (λ book index r f n k₀ k. Left (λ j. same (typeIs (exprOf book index (field book index r (3 + j)))) (typeOf book index (field book index f (3 + 2 * j)))) n (sameAll (typesAt book index r 1 3 n) (takesAt book index f 2 n)) k)
+    (λ book index r f n k₀ k. n - k)
+    (λ c. left-start (taken-walk _ _ _ _ _))
+    (λ c. omega (arith, c .before .before .before .before .pre .0 .few))
+    (λ c κs. argument (c .before .before .before .before .pre .0) (c .loop-test .taken))
+    (λ c. omega (arith, c .before .before .before .before .before .pre .0 .few))
+    (λ c. omega (arith, c .before .before .before .before .before .pre .0 .few))
+    (λ c κs. param-lies (c .before .before .before .before .before .pre .1 .0) _ (c .before .before .before .before .before .pre .1 .1) (c .before .loop-test .taken))
+    (λ c. left-stop (c .before .before .before .before .loop .inv) (c .before .before .before .loop-test .taken) (rw (← c .before .before .part-type .ensures .1, ← c .before .field-at .ensures) (differ (types-same (c .before .before .part-type .ensures .0) (param-at (c .before .before .before .before .before .before .before .pre .1 .0) _ (c .before .before .before .before .before .before .before .pre .1 .1) (c .before .before .before .loop-test .taken) (c .before .field-at .ensures))) (c .if1 .taken))))
+    (λ c. search needs)
+    (λ c. search needs)
+    (λ c. left-on (c .before .before .before .before .loop .inv) (c .before .before .before .loop-test .taken) (rw (← c .before .before .part-type .ensures .1, ← c .before .field-at .ensures) (equal (types-same (c .before .before .part-type .ensures .0) (param-at (c .before .before .before .before .before .before .before .pre .1 .0) _ (c .before .before .before .before .before .before .before .pre .1 .1) (c .before .before .before .loop-test .taken) (c .before .field-at .ensures))) (c .if1 .left))))
+    (λ c. left-end (c .before .loop .inv) (c .loop-test .left)))

@@ -1,69 +1,26 @@
+-- `array_fold` meets its contract: the function takes two, what is folded is of the first, and the second accumulates.
+-- Assumes nothing.
+use mathlib.Core.Path.{_∙_, sym}
+use native.Mathlib.Omega.{arith}
+use Rattle.shapes.proofs.Constructs.{names, typed-lies}
+use Rattle.shapes.proofs.Functions.{array-few, array-fold-is, array-folding, array-function, count-lies, fold-size, param-at, param-lies}
+use Rattle.shapes.proofs.Walks.{fails, no, passes, tells, yes}
 use borrow.Author.Needs.{needs}
 use Rattle.shapes.proofs.whole.array_fold.Statement.{statement}
 use Rattle.shapes.proofs.whole.array_fold.Tie as tie
-use Rattle.shapes.proofs.whole.array_fold.Reads as reads
-use Rattle.shapes.proofs.whole.array_fold.Lts as lts
-use Rattle.book.proofs.record.field_at.Reads as field-at-reads
-use Rattle.shapes.proofs.part.is_array.Reads as is-array-reads
-use Rattle.shapes.proofs.whole.is_accumulator.Reads as is-accumulator-reads
-use Rattle.shapes.proofs.whole.part_type.Reads as part-type-reads
-
--- src/whole.rt:365:9
-field-at-requires : tie.Need-field-at-requires
-field-at-requires c κs = ?
-
--- src/whole.rt:366:8
-field-at-requires-2 : tie.Need-field-at-requires-2
-field-at-requires-2 c κs = ?
-
--- src/whole.rt:367:9
-returns : tie.Need-returns
-returns c = ?
-
--- src/whole.rt:369:16
-field-at-requires-3 : tie.Need-field-at-requires-3
-field-at-requires-3 c κs = ?
-
--- src/whole.rt:369:16
-cast-size : tie.Need-cast-size
-cast-size c = search needs
-
--- src/whole.rt:370:9
-part-type-requires : tie.Need-part-type-requires
-part-type-requires c κs = ?
-
--- src/whole.rt:371:44
-field-at-requires-4 : tie.Need-field-at-requires-4
-field-at-requires-4 c κs = ?
-
--- src/whole.rt:371:9
-is-array-requires : tie.Need-is-array-requires
-is-array-requires c κs = ?
-
--- src/whole.rt:372:9
-returns-2 : tie.Need-returns-2
-returns-2 c = ?
-
--- src/whole.rt:374:5
-is-accumulator-requires : tie.Need-is-accumulator-requires
-is-accumulator-requires c κs = ?
-
--- src/whole.rt:361:1
-returns-3 : tie.Need-returns-3
-returns-3 c = ?
 
 pub array-fold-spec : {M : Type 1} → statement M
 array-fold-spec =
     tie.close
     (tie.spec
-    field-at-requires
-    field-at-requires-2
-    returns
-    field-at-requires-3
-    cast-size
-    part-type-requires
-    field-at-requires-4
-    is-array-requires
-    returns-2
-    is-accumulator-requires
-    returns-3)
+    (λ c κs. typed-lies (c .before .before .pre) 1 tt)
+    (λ c κs. count-lies (array-function (c .field-at .ensures) (c .before .before .before .pre)))
+    (λ c. array-few (c .before .before .field-at .ensures) (c .before .before .before .before .before .pre) (rw (← c .before .field-at2 .ensures) (c .if1 .taken)))
+    (λ c κs. typed-lies (c .before .before .before .before .before .pre) 2 tt)
+    (λ c. search needs)
+    (λ c κs. (typed-lies (c .before .before .before .before .before .before .pre) 3 tt, names (c .before .before .before .before .before .before .pre) 3 tt tt))
+    (λ c κs. param-lies (array-function (c .before .before .before .before .field-at .ensures) (c .before .before .before .before .before .before .before .pre)) 0 (sym (c .before .before .if1 .left) ∙ c .before .before .before .field-at2 .ensures) (omega arith))
+    (λ c κs. (c .before .part-type .ensures .0, (param-at (array-function (c .before .before .before .before .before .field-at .ensures) (c .before .before .before .before .before .before .before .before .pre)) 0 (sym (c .before .before .before .if1 .left) ∙ c .before .before .before .before .field-at2 .ensures) (omega arith) (c .field-at4 .ensures), fold-size (c .before .before .before .before .before .field-at .ensures) (c .before .before .before .before .before .before .before .before .pre) (c .before .before .field-at3 .ensures))))
+    (λ c. fails (array-fold-is (c .before .before .before .before .before .before .before .field-at .ensures) (c .before .before .before .before .before .before .before .before .before .before .pre) (sym (c .before .before .before .before .before .before .field-at2 .ensures) ∙ c .before .before .before .before .before .if1 .left) (c .before .before .before .before .field-at3 .ensures) (c .before .before .field-at4 .ensures) (c .before .before .before .part-type .ensures)) (no (c .before .is-array .ensures) (c .if2 .taken)))
+    (λ c κs. array-folding (c .before .before .before .before .before .before .before .field-at .ensures) (c .before .before .before .before .before .before .before .before .before .before .pre) (sym (c .before .before .before .before .before .before .field-at2 .ensures) ∙ c .before .before .before .before .before .if1 .left))
+    (λ c. tells (passes (array-fold-is (c .before .before .before .before .before .before .before .before .field-at .ensures) (c .before .before .before .before .before .before .before .before .before .before .before .pre) (sym (c .before .before .before .before .before .before .before .field-at2 .ensures) ∙ c .before .before .before .before .before .before .if1 .left) (c .before .before .before .before .before .field-at3 .ensures) (c .before .before .before .field-at4 .ensures) (c .before .before .before .before .part-type .ensures)) (yes (c .before .before .is-array .ensures) (c .before .if2 .left))) (c .is-accumulator .ensures)))

@@ -1,57 +1,24 @@
+-- `call` meets its contract: as many arguments, of their types, and what the function gives.
+-- Assumes nothing.
+use mathlib.Core.Path.{_∙_, sym}
+use Rattle.shapes.proofs.Constructs.{typed-lies, typed-stands}
+use Rattle.shapes.proofs.Functions.{call-few, call-function, call-is, call-row, count-lies, result-lies, result-stands}
+use Rattle.shapes.proofs.Same.{types-same}
+use Rattle.shapes.proofs.Walks.{fails, no, passes, tells, yes}
 use borrow.Author.Needs.{needs}
 use Rattle.shapes.proofs.whole.call.Statement.{statement}
 use Rattle.shapes.proofs.whole.call.Tie as tie
-use Rattle.shapes.proofs.whole.call.Reads as reads
-use Rattle.shapes.proofs.whole.call.Lts as lts
-use Rattle.book.proofs.record.field_at.Reads as field-at-reads
-use Rattle.shapes.proofs.whole.are_taken.Reads as are-taken-reads
-
--- src/whole.rt:317:9
-field-at-requires : tie.Need-field-at-requires
-field-at-requires c κs = ?
-
--- src/whole.rt:318:9
-field-at-requires-2 : tie.Need-field-at-requires-2
-field-at-requires-2 c κs = ?
-
--- src/whole.rt:319:8
-field-at-requires-3 : tie.Need-field-at-requires-3
-field-at-requires-3 c κs = ?
-
--- src/whole.rt:320:9
-returns : tie.Need-returns
-returns c = ?
-
--- src/whole.rt:322:38
-cast-are-taken : tie.Need-cast-are-taken
-cast-are-taken c = search needs
-
--- src/whole.rt:322:9
-are-taken-requires : tie.Need-are-taken-requires
-are-taken-requires c κs = ?
-
--- src/whole.rt:323:9
-returns-2 : tie.Need-returns-2
-returns-2 c = ?
-
--- src/whole.rt:325:5
-field-at-requires-4 : tie.Need-field-at-requires-4
-field-at-requires-4 c κs = ?
-
--- src/whole.rt:313:1
-returns-3 : tie.Need-returns-3
-returns-3 c = ?
 
 pub call-spec : {M : Type 1} → statement M
 call-spec =
     tie.close
     (tie.spec
-    field-at-requires
-    field-at-requires-2
-    field-at-requires-3
-    returns
-    cast-are-taken
-    are-taken-requires
-    returns-2
-    field-at-requires-4
-    returns-3)
+    (λ c κs. typed-lies (c .before .before .pre) 1 tt)
+    (λ c κs. typed-lies (c .before .before .before .pre) 2 tt)
+    (λ c κs. count-lies (call-function (c .before .before .before .before .pre) (c .before .field-at .ensures)))
+    (λ c. call-few (c .before .before .before .before .before .before .pre) (c .before .before .before .field-at .ensures) (c .before .before .field-at2 .ensures) (rw (← c .before .field-at3 .ensures) (c .if1 .taken)))
+    (λ c. search needs)
+    (λ c κs. (call-row (c .before .before .before .before .before .before .pre) (c .before .before .field-at2 .ensures), (call-function (c .before .before .before .before .before .before .pre) (c .before .before .before .field-at .ensures), sym (c .if1 .left) ∙ c .before .field-at3 .ensures)))
+    (λ c. fails (call-is (c .before .before .before .before .before .before .before .before .pre) (c .before .before .before .before .before .field-at .ensures) (c .before .before .before .before .field-at2 .ensures) (sym (c .before .before .before .field-at3 .ensures) ∙ c .before .before .if1 .left)) (no (c .before .are-taken .ensures) (c .if2 .taken)))
+    (λ c κs. result-lies (call-function (c .before .before .before .before .before .before .before .before .pre) (c .before .before .before .before .before .field-at .ensures)))
+    (λ c. tells (passes (call-is (c .before .before .before .before .before .before .before .before .before .pre) (c .before .before .before .before .before .before .field-at .ensures) (c .before .before .before .before .before .field-at2 .ensures) (sym (c .before .before .before .before .field-at3 .ensures) ∙ c .before .before .before .if1 .left)) (yes (c .before .before .are-taken .ensures) (c .before .if2 .left))) (rw (c .field-at4 .ensures) (types-same (typed-stands (c .before .before .before .before .before .before .before .before .before .pre)) (result-stands (call-function (c .before .before .before .before .before .before .before .before .before .pre) (c .before .before .before .before .before .before .field-at .ensures)))))))

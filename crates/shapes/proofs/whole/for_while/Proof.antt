@@ -1,109 +1,34 @@
+-- `for_while` meets its contract: the function takes three, and the tests are the construct's, one by one.
+-- Assumes nothing.
+use mathlib.Core.Path.{_∙_, sym}
+use native.Mathlib.Omega.{arith}
+use Rattle.shapes.proofs.Constructs.{names, typed-lies, typed-stands}
+use Rattle.shapes.proofs.Functions.{count-lies, loop-few, loop-function, loop-is, loop-power, param-at, param-lies, result-lies, result-stands}
+use Rattle.shapes.proofs.Same.{gives-at, types-same}
+use Rattle.shapes.proofs.Walks.{differ, equal, fails, no, passes, tells, yes}
 use borrow.Author.Needs.{needs}
 use Rattle.shapes.proofs.whole.for_while.Statement.{statement}
 use Rattle.shapes.proofs.whole.for_while.Tie as tie
-use Rattle.shapes.proofs.whole.for_while.Reads as reads
-use Rattle.shapes.proofs.whole.for_while.Lts as lts
-use Rattle.book.proofs.record.field_at.Reads as field-at-reads
-use Rattle.shapes.proofs.part.is_word.Reads as is-word-reads
-use Rattle.shapes.proofs.part.side.Reads as side-reads
-use Rattle.shapes.proofs.whole.part_type.Reads as part-type-reads
-
--- src/whole.rt:382:9
-field-at-requires : tie.Need-field-at-requires
-field-at-requires c κs = ?
-
--- src/whole.rt:383:8
-field-at-requires-2 : tie.Need-field-at-requires-2
-field-at-requires-2 c κs = ?
-
--- src/whole.rt:384:9
-returns : tie.Need-returns
-returns c = ?
-
--- src/whole.rt:386:17
-field-at-requires-3 : tie.Need-field-at-requires-3
-field-at-requires-3 c κs = ?
-
--- src/whole.rt:386:17
-cast-width : tie.Need-cast-width
-cast-width c = search needs
-
--- src/whole.rt:387:30
-field-at-requires-4 : tie.Need-field-at-requires-4
-field-at-requires-4 c κs = ?
-
--- src/whole.rt:387:9
-is-word-requires : tie.Need-is-word-requires
-is-word-requires c κs = ?
-
--- src/whole.rt:388:9
-returns-2 : tie.Need-returns-2
-returns-2 c = ?
-
--- src/whole.rt:390:8
-part-type-requires : tie.Need-part-type-requires
-part-type-requires c κs = ?
-
--- src/whole.rt:390:40
-field-at-requires-5 : tie.Need-field-at-requires-5
-field-at-requires-5 c κs = ?
-
--- src/whole.rt:391:9
-returns-3 : tie.Need-returns-3
-returns-3 c = ?
-
--- src/whole.rt:393:8
-part-type-requires-2 : tie.Need-part-type-requires-2
-part-type-requires-2 c κs = ?
-
--- src/whole.rt:393:40
-field-at-requires-6 : tie.Need-field-at-requires-6
-field-at-requires-6 c κs = ?
-
--- src/whole.rt:394:9
-returns-4 : tie.Need-returns-4
-returns-4 c = ?
-
--- src/whole.rt:396:8
-side-requires : tie.Need-side-requires
-side-requires c κs = ?
-
--- src/whole.rt:396:39
-field-at-requires-7 : tie.Need-field-at-requires-7
-field-at-requires-7 c κs = ?
-
--- src/whole.rt:397:9
-returns-5 : tie.Need-returns-5
-returns-5 c = ?
-
--- src/whole.rt:399:5
-field-at-requires-8 : tie.Need-field-at-requires-8
-field-at-requires-8 c κs = ?
-
--- src/whole.rt:378:1
-returns-6 : tie.Need-returns-6
-returns-6 c = ?
 
 pub for-while-spec : {M : Type 1} → statement M
 for-while-spec =
     tie.close
     (tie.spec
-    field-at-requires
-    field-at-requires-2
-    returns
-    field-at-requires-3
-    cast-width
-    field-at-requires-4
-    is-word-requires
-    returns-2
-    part-type-requires
-    field-at-requires-5
-    returns-3
-    part-type-requires-2
-    field-at-requires-6
-    returns-4
-    side-requires
-    field-at-requires-7
-    returns-5
-    field-at-requires-8
-    returns-6)
+    (λ c κs. typed-lies (c .before .before .pre) 1 tt)
+    (λ c κs. count-lies (loop-function (c .field-at .ensures) (c .before .before .before .pre)))
+    (λ c. loop-few (c .before .before .field-at .ensures) (c .before .before .before .before .before .pre) (rw (← c .before .field-at2 .ensures) (c .if1 .taken)))
+    (λ c κs. typed-lies (c .before .before .before .before .before .pre) 2 tt)
+    (λ c. search needs)
+    (λ c κs. param-lies (loop-function (c .before .before .before .field-at .ensures) (c .before .before .before .before .before .before .pre)) 0 (sym (c .before .if1 .left) ∙ c .before .before .field-at2 .ensures) (omega arith))
+    (λ c κs. param-lies (loop-function (c .before .before .before .before .field-at .ensures) (c .before .before .before .before .before .before .before .pre)) 1 (sym (c .before .before .if1 .left) ∙ c .before .before .before .field-at2 .ensures) (omega arith))
+    (λ c κs. param-lies (loop-function (c .before .before .before .before .before .field-at .ensures) (c .before .before .before .before .before .before .before .before .pre)) 2 (sym (c .before .before .before .if1 .left) ∙ c .before .before .before .before .field-at2 .ensures) (omega arith))
+    (λ c κs. (param-at (loop-function (c .before .before .before .before .before .before .field-at .ensures) (c .before .before .before .before .before .before .before .before .before .pre)) 2 (sym (c .before .before .before .before .if1 .left) ∙ c .before .before .before .before .before .field-at2 .ensures) (omega arith) (c .field-at6 .ensures), loop-power (c .before .before .before .before .before .before .field-at .ensures) (c .before .before .before .before .before .before .before .before .before .pre) (c .before .before .before .field-at3 .ensures)))
+    (λ c. fails (loop-is (c .before .before .before .before .before .before .before .before .field-at .ensures) (c .before .before .before .before .before .before .before .before .before .before .before .pre) (sym (c .before .before .before .before .before .before .before .field-at2 .ensures) ∙ c .before .before .before .before .before .before .if1 .left) (c .before .before .before .before .before .field-at3 .ensures) (c .before .before .before .before .field-at4 .ensures) (c .before .before .before .field-at5 .ensures) (c .before .before .field-at6 .ensures)) (no (c .before .is-word .ensures) (c .if2 .taken)))
+    (λ c κs. (typed-lies (c .before .before .before .before .before .before .before .before .before .before .before .pre) 3 tt, names (c .before .before .before .before .before .before .before .before .before .before .before .pre) 3 tt tt))
+    (λ c. fails (passes (loop-is (c .before .before .before .before .before .before .before .before .before .before .field-at .ensures) (c .before .before .before .before .before .before .before .before .before .before .before .before .before .pre) (sym (c .before .before .before .before .before .before .before .before .before .field-at2 .ensures) ∙ c .before .before .before .before .before .before .before .before .if1 .left) (c .before .before .before .before .before .before .before .field-at3 .ensures) (c .before .before .before .before .before .before .field-at4 .ensures) (c .before .before .before .before .before .field-at5 .ensures) (c .before .before .before .before .field-at6 .ensures)) (yes (c .before .before .before .is-word .ensures) (c .before .before .if2 .left))) (rw (← c .before .part-type .ensures .1) (differ (types-same (c .before .part-type .ensures .0) (param-at (loop-function (c .before .before .before .before .before .before .before .before .before .before .field-at .ensures) (c .before .before .before .before .before .before .before .before .before .before .before .before .before .pre)) 0 (sym (c .before .before .before .before .before .before .before .before .if1 .left) ∙ c .before .before .before .before .before .before .before .before .before .field-at2 .ensures) (omega arith) (c .before .before .before .before .before .before .field-at4 .ensures))) (c .if3 .taken))))
+    (λ c κs. (typed-lies (c .before .before .before .before .before .before .before .before .before .before .before .before .before .pre) 4 tt, names (c .before .before .before .before .before .before .before .before .before .before .before .before .before .pre) 4 tt tt))
+    (λ c. fails (passes (passes (loop-is (c .before .before .before .before .before .before .before .before .before .before .before .before .field-at .ensures) (c .before .before .before .before .before .before .before .before .before .before .before .before .before .before .before .pre) (sym (c .before .before .before .before .before .before .before .before .before .before .before .field-at2 .ensures) ∙ c .before .before .before .before .before .before .before .before .before .before .if1 .left) (c .before .before .before .before .before .before .before .before .before .field-at3 .ensures) (c .before .before .before .before .before .before .before .before .field-at4 .ensures) (c .before .before .before .before .before .before .before .field-at5 .ensures) (c .before .before .before .before .before .before .field-at6 .ensures)) (yes (c .before .before .before .before .before .is-word .ensures) (c .before .before .before .before .if2 .left))) (rw (← c .before .before .before .part-type .ensures .1) (equal (types-same (c .before .before .before .part-type .ensures .0) (param-at (loop-function (c .before .before .before .before .before .before .before .before .before .before .before .before .field-at .ensures) (c .before .before .before .before .before .before .before .before .before .before .before .before .before .before .before .pre)) 0 (sym (c .before .before .before .before .before .before .before .before .before .before .if1 .left) ∙ c .before .before .before .before .before .before .before .before .before .before .before .field-at2 .ensures) (omega arith) (c .before .before .before .before .before .before .before .before .field-at4 .ensures))) (c .before .before .if3 .left)))) (rw (← c .before .part-type2 .ensures .1) (differ (types-same (c .before .part-type2 .ensures .0) (param-at (loop-function (c .before .before .before .before .before .before .before .before .before .before .before .before .field-at .ensures) (c .before .before .before .before .before .before .before .before .before .before .before .before .before .before .before .pre)) 1 (sym (c .before .before .before .before .before .before .before .before .before .before .if1 .left) ∙ c .before .before .before .before .before .before .before .before .before .before .before .field-at2 .ensures) (omega arith) (c .before .before .before .before .before .before .before .field-at5 .ensures))) (c .if4 .taken))))
+    (λ c κs. (typed-stands (c .before .before .before .before .before .before .before .before .before .before .before .before .before .before .before .pre), (tt, omega arith)))
+    (λ c. fails (passes (passes (passes (loop-is (c .before .before .before .before .before .before .before .before .before .before .before .before .before .before .field-at .ensures) (c .before .before .before .before .before .before .before .before .before .before .before .before .before .before .before .before .before .pre) (sym (c .before .before .before .before .before .before .before .before .before .before .before .before .before .field-at2 .ensures) ∙ c .before .before .before .before .before .before .before .before .before .before .before .before .if1 .left) (c .before .before .before .before .before .before .before .before .before .before .before .field-at3 .ensures) (c .before .before .before .before .before .before .before .before .before .before .field-at4 .ensures) (c .before .before .before .before .before .before .before .before .before .field-at5 .ensures) (c .before .before .before .before .before .before .before .before .field-at6 .ensures)) (yes (c .before .before .before .before .before .before .before .is-word .ensures) (c .before .before .before .before .before .before .if2 .left))) (rw (← c .before .before .before .before .before .part-type .ensures .1) (equal (types-same (c .before .before .before .before .before .part-type .ensures .0) (param-at (loop-function (c .before .before .before .before .before .before .before .before .before .before .before .before .before .before .field-at .ensures) (c .before .before .before .before .before .before .before .before .before .before .before .before .before .before .before .before .before .pre)) 0 (sym (c .before .before .before .before .before .before .before .before .before .before .before .before .if1 .left) ∙ c .before .before .before .before .before .before .before .before .before .before .before .before .before .field-at2 .ensures) (omega arith) (c .before .before .before .before .before .before .before .before .before .before .field-at4 .ensures))) (c .before .before .before .before .if3 .left)))) (rw (← c .before .before .before .part-type2 .ensures .1) (equal (types-same (c .before .before .before .part-type2 .ensures .0) (param-at (loop-function (c .before .before .before .before .before .before .before .before .before .before .before .before .before .before .field-at .ensures) (c .before .before .before .before .before .before .before .before .before .before .before .before .before .before .before .before .before .pre)) 1 (sym (c .before .before .before .before .before .before .before .before .before .before .before .before .if1 .left) ∙ c .before .before .before .before .before .before .before .before .before .before .before .before .before .field-at2 .ensures) (omega arith) (c .before .before .before .before .before .before .before .before .before .field-at5 .ensures))) (c .before .before .if4 .left)))) (differ (gives-at (c .before .side .ensures) (param-at (loop-function (c .before .before .before .before .before .before .before .before .before .before .before .before .before .before .field-at .ensures) (c .before .before .before .before .before .before .before .before .before .before .before .before .before .before .before .before .before .pre)) 0 (sym (c .before .before .before .before .before .before .before .before .before .before .before .before .if1 .left) ∙ c .before .before .before .before .before .before .before .before .before .before .before .before .before .field-at2 .ensures) (omega arith) (c .before .before .before .before .before .before .before .before .before .before .field-at4 .ensures))) (c .if5 .taken)))
+    (λ c κs. result-lies (loop-function (c .before .before .before .before .before .before .before .before .before .before .before .before .before .before .field-at .ensures) (c .before .before .before .before .before .before .before .before .before .before .before .before .before .before .before .before .before .pre)))
+    (λ c. tells (passes (passes (passes (passes (loop-is (c .before .before .before .before .before .before .before .before .before .before .before .before .before .before .before .field-at .ensures) (c .before .before .before .before .before .before .before .before .before .before .before .before .before .before .before .before .before .before .pre) (sym (c .before .before .before .before .before .before .before .before .before .before .before .before .before .before .field-at2 .ensures) ∙ c .before .before .before .before .before .before .before .before .before .before .before .before .before .if1 .left) (c .before .before .before .before .before .before .before .before .before .before .before .before .field-at3 .ensures) (c .before .before .before .before .before .before .before .before .before .before .before .field-at4 .ensures) (c .before .before .before .before .before .before .before .before .before .before .field-at5 .ensures) (c .before .before .before .before .before .before .before .before .before .field-at6 .ensures)) (yes (c .before .before .before .before .before .before .before .before .is-word .ensures) (c .before .before .before .before .before .before .before .if2 .left))) (rw (← c .before .before .before .before .before .before .part-type .ensures .1) (equal (types-same (c .before .before .before .before .before .before .part-type .ensures .0) (param-at (loop-function (c .before .before .before .before .before .before .before .before .before .before .before .before .before .before .before .field-at .ensures) (c .before .before .before .before .before .before .before .before .before .before .before .before .before .before .before .before .before .before .pre)) 0 (sym (c .before .before .before .before .before .before .before .before .before .before .before .before .before .if1 .left) ∙ c .before .before .before .before .before .before .before .before .before .before .before .before .before .before .field-at2 .ensures) (omega arith) (c .before .before .before .before .before .before .before .before .before .before .before .field-at4 .ensures))) (c .before .before .before .before .before .if3 .left)))) (rw (← c .before .before .before .before .part-type2 .ensures .1) (equal (types-same (c .before .before .before .before .part-type2 .ensures .0) (param-at (loop-function (c .before .before .before .before .before .before .before .before .before .before .before .before .before .before .before .field-at .ensures) (c .before .before .before .before .before .before .before .before .before .before .before .before .before .before .before .before .before .before .pre)) 1 (sym (c .before .before .before .before .before .before .before .before .before .before .before .before .before .if1 .left) ∙ c .before .before .before .before .before .before .before .before .before .before .before .before .before .before .field-at2 .ensures) (omega arith) (c .before .before .before .before .before .before .before .before .before .before .field-at5 .ensures))) (c .before .before .before .if4 .left)))) (equal (gives-at (c .before .before .side .ensures) (param-at (loop-function (c .before .before .before .before .before .before .before .before .before .before .before .before .before .before .before .field-at .ensures) (c .before .before .before .before .before .before .before .before .before .before .before .before .before .before .before .before .before .before .pre)) 0 (sym (c .before .before .before .before .before .before .before .before .before .before .before .before .before .if1 .left) ∙ c .before .before .before .before .before .before .before .before .before .before .before .before .before .before .field-at2 .ensures) (omega arith) (c .before .before .before .before .before .before .before .before .before .before .before .field-at4 .ensures))) (c .before .if5 .left))) (rw (c .field-at7 .ensures) (types-same (result-stands (loop-function (c .before .before .before .before .before .before .before .before .before .before .before .before .before .before .before .field-at .ensures) (c .before .before .before .before .before .before .before .before .before .before .before .before .before .before .before .before .before .before .pre))) (typed-stands (c .before .before .before .before .before .before .before .before .before .before .before .before .before .before .before .before .before .before .pre))))))

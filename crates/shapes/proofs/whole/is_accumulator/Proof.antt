@@ -1,36 +1,18 @@
-use borrow.Author.Needs.{needs}
+-- `is_accumulator` meets its contract: the function's second parameter is where the fold starts from and what both give.
+-- Assumes nothing.
+use Rattle.shapes.proofs.Functions.{accumulates-is, result-lies, result-stands, second-lies, second-stands}
+use Rattle.shapes.proofs.Same.{types-same}
+use Rattle.shapes.proofs.Walks.{differ, equal, fails, passes, tells}
 use Rattle.shapes.proofs.whole.is_accumulator.Statement.{statement}
 use Rattle.shapes.proofs.whole.is_accumulator.Tie as tie
-use Rattle.shapes.proofs.whole.is_accumulator.Reads as reads
-use Rattle.shapes.proofs.whole.is_accumulator.Lts as lts
-use Rattle.book.proofs.record.field_at.Reads as field-at-reads
-use Rattle.shapes.proofs.whole.part_type.Reads as part-type-reads
-
--- src/whole.rt:333:9
-field-at-requires : tie.Need-field-at-requires
-field-at-requires c κs = ?
-
--- src/whole.rt:334:8
-part-type-requires : tie.Need-part-type-requires
-part-type-requires c κs = search needs
-
--- src/whole.rt:335:9
-returns : tie.Need-returns
-returns c = ?
-
--- src/whole.rt:338:9
-returns-2 : tie.Need-returns-2
-returns-2 c = ?
-
--- src/whole.rt:340:5
-field-at-requires-2 : tie.Need-field-at-requires-2
-field-at-requires-2 c κs = ?
-
--- src/whole.rt:329:1
-returns-3 : tie.Need-returns-3
-returns-3 c = ?
 
 pub is-accumulator-spec : {M : Type 1} → statement M
 is-accumulator-spec =
     tie.close
-    (tie.spec field-at-requires part-type-requires returns returns-2 field-at-requires-2 returns-3)
+    (tie.spec
+    (λ c κs. second-lies (c .before .before .pre))
+    (λ c κs. (c .before .before .before .pre .lies, c .before .before .before .pre .start))
+    (λ c. fails (accumulates-is (c .before .before .before .before .before .pre) (c .before .before .field-at .ensures)) (rw (← c .before .part-type .ensures .1) (differ (types-same (c .before .part-type .ensures .0) (second-stands (c .before .before .before .before .before .pre) (c .before .before .field-at .ensures))) (c .if1 .taken))))
+    (λ c. fails (passes (accumulates-is (c .before .before .before .before .before .before .pre) (c .before .before .before .field-at .ensures)) (rw (← c .before .before .part-type .ensures .1) (equal (types-same (c .before .before .part-type .ensures .0) (second-stands (c .before .before .before .before .before .before .pre) (c .before .before .before .field-at .ensures))) (c .before .if1 .left)))) (differ (types-same (c .before .before .before .before .before .before .pre .type) (second-stands (c .before .before .before .before .before .before .pre) (c .before .before .before .field-at .ensures))) (c .if2 .taken)))
+    (λ c κs. result-lies (c .before .before .before .before .before .before .pre .function))
+    (λ c. tells (passes (passes (accumulates-is (c .before .before .before .before .before .before .before .pre) (c .before .before .before .before .field-at .ensures)) (rw (← c .before .before .before .part-type .ensures .1) (equal (types-same (c .before .before .before .part-type .ensures .0) (second-stands (c .before .before .before .before .before .before .before .pre) (c .before .before .before .before .field-at .ensures))) (c .before .before .if1 .left)))) (equal (types-same (c .before .before .before .before .before .before .before .pre .type) (second-stands (c .before .before .before .before .before .before .before .pre) (c .before .before .before .before .field-at .ensures))) (c .before .if2 .left))) (rw (c .field-at2 .ensures) (types-same (result-stands (c .before .before .before .before .before .before .before .pre .function)) (second-stands (c .before .before .before .before .before .before .before .pre) (c .before .before .before .before .field-at .ensures))))))

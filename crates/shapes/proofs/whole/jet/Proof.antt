@@ -1,80 +1,28 @@
+-- `jet` meets its contract: as many arguments, words, and what it gives.
+-- Assumes nothing.
+use native.Mathlib.Omega.{arith}
+use Rattle.shapes.proofs.Constructs.{typed-lies, typed-stands}
+use Rattle.shapes.proofs.Functions.{jet-bits, jet-few, jet-is, jet-number, jet-result, jet-some, jet-word}
+use Rattle.shapes.proofs.Rows.{span-row}
+use Rattle.shapes.proofs.Walks.{fails, no, passes, tells, yes}
 use borrow.Author.Needs.{needs}
 use Rattle.shapes.proofs.whole.jet.Statement.{statement}
 use Rattle.shapes.proofs.whole.jet.Tie as tie
-use Rattle.shapes.proofs.whole.jet.Reads as reads
-use Rattle.shapes.proofs.whole.jet.Lts as lts
-use Rattle.book.proofs.record.field_at.Reads as field-at-reads
-use Rattle.jet.proofs.jet_at.Reads as jet-at-reads
-use Rattle.parts.proofs.view.span_of.Reads as span-of-reads
-use Rattle.shapes.proofs.whole.are_words.Reads as are-words-reads
-use Rattle.shapes.proofs.whole.is_result.Reads as is-result-reads
-
--- src/whole.rt:237:22
-field-at-requires : tie.Need-field-at-requires
-field-at-requires c κs = ?
-
--- src/whole.rt:237:22
-cast-jet-at : tie.Need-cast-jet-at
-cast-jet-at c = search needs
-
--- src/whole.rt:237:9
-jet-at-requires : tie.Need-jet-at-requires
-jet-at-requires c κs = ?
-
--- src/whole.rt:238:8
-field-at-requires-2 : tie.Need-field-at-requires-2
-field-at-requires-2 c κs = ?
-
--- src/whole.rt:239:9
-returns : tie.Need-returns
-returns c = ?
-
--- src/whole.rt:241:17
-div-bits : tie.Need-div-bits
-div-bits c = ?
-
--- src/whole.rt:241:16
-cast-bits : tie.Need-cast-bits
-cast-bits c = ?
-
--- src/whole.rt:242:35
-span-of-requires : tie.Need-span-of-requires
-span-of-requires c κs = search needs
-
--- src/whole.rt:242:9
-are-words-requires : tie.Need-are-words-requires
-are-words-requires c κs = ?
-
--- src/whole.rt:243:9
-returns-2 : tie.Need-returns-2
-returns-2 c = ?
-
--- src/whole.rt:245:31
-cast-is-result : tie.Need-cast-is-result
-cast-is-result c = search needs
-
--- src/whole.rt:245:5
-is-result-requires : tie.Need-is-result-requires
-is-result-requires c κs = ?
-
--- src/whole.rt:233:1
-returns-3 : tie.Need-returns-3
-returns-3 c = ?
 
 pub jet-spec : {M : Type 1} → statement M
 jet-spec =
     tie.close
     (tie.spec
-    field-at-requires
-    cast-jet-at
-    jet-at-requires
-    field-at-requires-2
-    returns
-    div-bits
-    cast-bits
-    span-of-requires
-    are-words-requires
-    returns-2
-    cast-is-result
-    is-result-requires
-    returns-3)
+    (λ c κs. c .before .before .pre .marked)
+    (λ c κs. typed-lies (c .before .before .before .pre) 2 tt)
+    (λ c. search needs)
+    (λ c κs. omega (arith, jet-number (c .before .before .before .before .pre) (c .field-at .ensures)))
+    (λ c κs. typed-lies (c .before .before .before .before .before .pre) 3 tt)
+    (λ c. jet-few (c .before .before .before .before .before .before .before .before .pre) (c .before .before .before .before .field-at .ensures) (c .before .before .before .jet-at .ensures) (c .before .before .field-at2 .ensures) (c .if1 .taken))
+    (λ c. jet-some (c .before .before .before .before .before .before .before .before .before .pre) (c .before .before .before .before .before .field-at .ensures) (c .before .before .before .before .jet-at .ensures))
+    (λ c. omega (arith, jet-bits (c .before .before .before .before .before .before .before .before .before .pre) (c .before .before .before .before .before .field-at .ensures) (c .before .before .before .before .jet-at .ensures)))
+    (λ c κs. (span-row (c .before .before .before .before .before .before .before .before .before .pre .marked) tt (c .before .before .before .before .before .before .span-of .ensures), jet-word (c .before .before .before .before .before .before .before .before .before .pre) (c .before .before .before .before .before .field-at .ensures) (c .before .before .before .before .jet-at .ensures)))
+    (λ c. fails (jet-is (c .before .before .before .before .before .before .before .before .before .before .before .pre) (c .before .before .before .before .before .before .before .field-at .ensures) (c .before .before .before .before .before .before .jet-at .ensures) (c .before .before .before .before .before .field-at2 .ensures) (c .before .before .before .if1 .left) (c .before .before .before .before .before .before .before .before .span-of .ensures)) (no (c .before .are-words .ensures) (c .if2 .taken)))
+    (λ c. search needs)
+    (λ c κs. (typed-stands (c .before .before .before .before .before .before .before .before .before .before .before .before .pre), jet-result (c .before .before .before .before .before .before .before .before .before .before .before .before .pre) (c .before .before .before .before .before .before .before .before .field-at .ensures) (c .before .before .before .before .before .before .before .jet-at .ensures)))
+    (λ c. tells (passes (jet-is (c .before .before .before .before .before .before .before .before .before .before .before .before .before .pre) (c .before .before .before .before .before .before .before .before .before .field-at .ensures) (c .before .before .before .before .before .before .before .before .jet-at .ensures) (c .before .before .before .before .before .before .before .field-at2 .ensures) (c .before .before .before .before .before .if1 .left) (c .before .before .before .before .before .before .before .before .before .before .span-of .ensures)) (yes (c .before .before .before .are-words .ensures) (c .before .before .if2 .left))) (c .is-result .ensures)))

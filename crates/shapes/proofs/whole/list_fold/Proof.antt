@@ -1,69 +1,26 @@
+-- `list_fold` meets its contract: the function takes two, what is folded is of the first, and the second accumulates.
+-- Assumes nothing.
+use mathlib.Core.Path.{_∙_, sym}
+use native.Mathlib.Omega.{arith}
+use Rattle.shapes.proofs.Constructs.{names, typed-lies}
+use Rattle.shapes.proofs.Functions.{count-lies, fold-bound, list-few, list-fold-is, list-folding, list-function, param-at, param-lies}
+use Rattle.shapes.proofs.Walks.{fails, no, passes, tells, yes}
 use borrow.Author.Needs.{needs}
 use Rattle.shapes.proofs.whole.list_fold.Statement.{statement}
 use Rattle.shapes.proofs.whole.list_fold.Tie as tie
-use Rattle.shapes.proofs.whole.list_fold.Reads as reads
-use Rattle.shapes.proofs.whole.list_fold.Lts as lts
-use Rattle.book.proofs.record.field_at.Reads as field-at-reads
-use Rattle.shapes.proofs.part.is_list.Reads as is-list-reads
-use Rattle.shapes.proofs.whole.is_accumulator.Reads as is-accumulator-reads
-use Rattle.shapes.proofs.whole.part_type.Reads as part-type-reads
-
--- src/whole.rt:348:9
-field-at-requires : tie.Need-field-at-requires
-field-at-requires c κs = ?
-
--- src/whole.rt:349:8
-field-at-requires-2 : tie.Need-field-at-requires-2
-field-at-requires-2 c κs = ?
-
--- src/whole.rt:350:9
-returns : tie.Need-returns
-returns c = ?
-
--- src/whole.rt:352:17
-field-at-requires-3 : tie.Need-field-at-requires-3
-field-at-requires-3 c κs = ?
-
--- src/whole.rt:352:17
-cast-bound : tie.Need-cast-bound
-cast-bound c = search needs
-
--- src/whole.rt:353:9
-part-type-requires : tie.Need-part-type-requires
-part-type-requires c κs = ?
-
--- src/whole.rt:354:43
-field-at-requires-4 : tie.Need-field-at-requires-4
-field-at-requires-4 c κs = ?
-
--- src/whole.rt:354:9
-is-list-requires : tie.Need-is-list-requires
-is-list-requires c κs = ?
-
--- src/whole.rt:355:9
-returns-2 : tie.Need-returns-2
-returns-2 c = ?
-
--- src/whole.rt:357:5
-is-accumulator-requires : tie.Need-is-accumulator-requires
-is-accumulator-requires c κs = ?
-
--- src/whole.rt:344:1
-returns-3 : tie.Need-returns-3
-returns-3 c = ?
 
 pub list-fold-spec : {M : Type 1} → statement M
 list-fold-spec =
     tie.close
     (tie.spec
-    field-at-requires
-    field-at-requires-2
-    returns
-    field-at-requires-3
-    cast-bound
-    part-type-requires
-    field-at-requires-4
-    is-list-requires
-    returns-2
-    is-accumulator-requires
-    returns-3)
+    (λ c κs. typed-lies (c .before .before .pre) 1 tt)
+    (λ c κs. count-lies (list-function (c .field-at .ensures) (c .before .before .before .pre)))
+    (λ c. list-few (c .before .before .field-at .ensures) (c .before .before .before .before .before .pre) (rw (← c .before .field-at2 .ensures) (c .if1 .taken)))
+    (λ c κs. typed-lies (c .before .before .before .before .before .pre) 2 tt)
+    (λ c. search needs)
+    (λ c κs. (typed-lies (c .before .before .before .before .before .before .pre) 3 tt, names (c .before .before .before .before .before .before .pre) 3 tt tt))
+    (λ c κs. param-lies (list-function (c .before .before .before .before .field-at .ensures) (c .before .before .before .before .before .before .before .pre)) 0 (sym (c .before .before .if1 .left) ∙ c .before .before .before .field-at2 .ensures) (omega arith))
+    (λ c κs. (c .before .part-type .ensures .0, (param-at (list-function (c .before .before .before .before .before .field-at .ensures) (c .before .before .before .before .before .before .before .before .pre)) 0 (sym (c .before .before .before .if1 .left) ∙ c .before .before .before .before .field-at2 .ensures) (omega arith) (c .field-at4 .ensures), fold-bound (c .before .before .before .before .before .field-at .ensures) (c .before .before .before .before .before .before .before .before .pre) (c .before .before .field-at3 .ensures))))
+    (λ c. fails (list-fold-is (c .before .before .before .before .before .before .before .field-at .ensures) (c .before .before .before .before .before .before .before .before .before .before .pre) (sym (c .before .before .before .before .before .before .field-at2 .ensures) ∙ c .before .before .before .before .before .if1 .left) (c .before .before .before .before .field-at3 .ensures) (c .before .before .field-at4 .ensures) (c .before .before .before .part-type .ensures)) (no (c .before .is-list .ensures) (c .if2 .taken)))
+    (λ c κs. list-folding (c .before .before .before .before .before .before .before .field-at .ensures) (c .before .before .before .before .before .before .before .before .before .before .pre) (sym (c .before .before .before .before .before .before .field-at2 .ensures) ∙ c .before .before .before .before .before .if1 .left))
+    (λ c. tells (passes (list-fold-is (c .before .before .before .before .before .before .before .before .field-at .ensures) (c .before .before .before .before .before .before .before .before .before .before .before .pre) (sym (c .before .before .before .before .before .before .before .field-at2 .ensures) ∙ c .before .before .before .before .before .before .if1 .left) (c .before .before .before .before .before .field-at3 .ensures) (c .before .before .before .field-at4 .ensures) (c .before .before .before .before .part-type .ensures)) (yes (c .before .before .is-list .ensures) (c .before .if2 .left))) (c .is-accumulator .ensures)))

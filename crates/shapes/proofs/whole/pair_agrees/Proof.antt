@@ -1,52 +1,25 @@
+-- `pair_agrees` meets its contract: the declared type is a product, of the parts' types.
+-- Assumes nothing.
+use mathlib.Core.Path.{refl}
+use native.Mathlib.Omega.{arith}
+use Rattle.book.proofs.Standing.{stands-begins}
+use Rattle.book.specs.Format.{VP}
+use Rattle.shapes.proofs.Marks.{pair-is, pair-not, pair-type, value-lies, value-names}
+use Rattle.shapes.proofs.Same.{types-same}
+use Rattle.shapes.proofs.Sides.{side-at, side-lies}
+use Rattle.shapes.proofs.Walks.{differ, equal, fails, passes, tells}
 use Rattle.shapes.proofs.whole.pair_agrees.Statement.{statement}
 use Rattle.shapes.proofs.whole.pair_agrees.Tie as tie
-use Rattle.shapes.proofs.whole.pair_agrees.Reads as reads
-use Rattle.shapes.proofs.whole.pair_agrees.Lts as lts
-use Rattle.book.proofs.record.field_at.Reads as field-at-reads
-use Rattle.book.proofs.record.mark_at.Reads as mark-at-reads
-use Rattle.shapes.proofs.whole.value_type.Reads as value-type-reads
-
--- src/whole.rt:490:8
-mark-at-requires : tie.Need-mark-at-requires
-mark-at-requires c κs = ?
-
--- src/whole.rt:491:9
-returns : tie.Need-returns
-returns c = ?
-
--- src/whole.rt:493:8
-field-at-requires : tie.Need-field-at-requires
-field-at-requires c κs = ?
-
--- src/whole.rt:493:39
-value-type-requires : tie.Need-value-type-requires
-value-type-requires c κs = ?
-
--- src/whole.rt:494:9
-returns-2 : tie.Need-returns-2
-returns-2 c = ?
-
--- src/whole.rt:496:5
-field-at-requires-2 : tie.Need-field-at-requires-2
-field-at-requires-2 c κs = ?
-
--- src/whole.rt:496:36
-value-type-requires-2 : tie.Need-value-type-requires-2
-value-type-requires-2 c κs = ?
-
--- src/whole.rt:486:1
-returns-3 : tie.Need-returns-3
-returns-3 c = ?
 
 pub pair-agrees-spec : {M : Type 1} → statement M
 pair-agrees-spec =
     tie.close
     (tie.spec
-    mark-at-requires
-    returns
-    field-at-requires
-    value-type-requires
-    returns-2
-    field-at-requires-2
-    value-type-requires-2
-    returns-3)
+    (λ c κs. stands-begins (pair-type (c .before .before .pre .0) (c .before .before .pre .1 .0) (c .before .before .pre .1 .1)))
+    (λ c. pair-not (c .before .before .before .before .pre .0) (c .before .before .before .before .pre .1 .0) (c .before .before .before .before .pre .1 .1) (c .before .mark-at .ensures) (c .if1 .taken))
+    (λ c κs. side-lies (pair-type (c .before .before .before .before .pre .0) (c .before .before .before .before .pre .1 .0) (c .before .before .before .before .pre .1 .1)) (c .before .mark-at .ensures) tt (c .if1 .left) 0 (omega arith))
+    (λ c κs. (value-lies (c .before .before .before .before .before .pre .0) refl VP (c .before .before .before .before .before .pre .1 .0) 1 tt, value-names (c .before .before .before .before .before .pre .0) refl VP (c .before .before .before .before .before .pre .1 .0) 1 tt tt))
+    (λ c. fails (pair-is (c .before .before .before .before .before .before .before .pre .0) (c .before .before .before .before .before .before .before .pre .1 .0) (c .before .before .before .before .before .before .before .pre .1 .1) (c .before .before .before .before .mark-at .ensures) (c .before .before .before .if1 .left) (c .before .before .field-at .ensures) refl) (rw (← c .before .value-type .ensures .1) (differ (types-same (side-at (pair-type (c .before .before .before .before .before .before .before .pre .0) (c .before .before .before .before .before .before .before .pre .1 .0) (c .before .before .before .before .before .before .before .pre .1 .1)) (c .before .before .before .before .mark-at .ensures) tt (c .before .before .before .if1 .left) (omega arith) (c .before .before .field-at .ensures)) (c .before .value-type .ensures .0)) (c .if2 .taken))))
+    (λ c κs. side-lies (pair-type (c .before .before .before .before .before .before .before .pre .0) (c .before .before .before .before .before .before .before .pre .1 .0) (c .before .before .before .before .before .before .before .pre .1 .1)) (c .before .before .before .before .mark-at .ensures) tt (c .before .before .before .if1 .left) 1 (omega arith))
+    (λ c κs. (value-lies (c .before .before .before .before .before .before .before .before .pre .0) refl VP (c .before .before .before .before .before .before .before .before .pre .1 .0) 2 tt, value-names (c .before .before .before .before .before .before .before .before .pre .0) refl VP (c .before .before .before .before .before .before .before .before .pre .1 .0) 2 tt tt))
+    (λ c. tells (passes (pair-is (c .before .before .before .before .before .before .before .before .before .pre .0) (c .before .before .before .before .before .before .before .before .before .pre .1 .0) (c .before .before .before .before .before .before .before .before .before .pre .1 .1) (c .before .before .before .before .before .before .mark-at .ensures) (c .before .before .before .before .before .if1 .left) (c .before .before .before .before .field-at .ensures) (c .before .field-at2 .ensures)) (rw (← c .before .before .before .value-type .ensures .1) (equal (types-same (side-at (pair-type (c .before .before .before .before .before .before .before .before .before .pre .0) (c .before .before .before .before .before .before .before .before .before .pre .1 .0) (c .before .before .before .before .before .before .before .before .before .pre .1 .1)) (c .before .before .before .before .before .before .mark-at .ensures) tt (c .before .before .before .before .before .if1 .left) (omega arith) (c .before .before .before .before .field-at .ensures)) (c .before .before .before .value-type .ensures .0)) (c .before .before .if2 .left)))) (rw (← c .value-type2 .ensures .1) (types-same (side-at (pair-type (c .before .before .before .before .before .before .before .before .before .pre .0) (c .before .before .before .before .before .before .before .before .before .pre .1 .0) (c .before .before .before .before .before .before .before .before .before .pre .1 .1)) (c .before .before .before .before .before .before .mark-at .ensures) tt (c .before .before .before .before .before .if1 .left) (omega arith) (c .before .field-at2 .ensures)) (c .value-type2 .ensures .0)))))
