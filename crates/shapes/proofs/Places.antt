@@ -1,0 +1,69 @@
+-- A type is the type of a row exactly where each of its places is.
+-- Assumes nothing.
+use Prim.Native.Nat.{ℕ, _+_, _-_, _≤_, _<_}
+use mathlib.Core.List.{List, [], _∷_}
+use mathlib.Core.Option.{Option, some, none}
+use mathlib.Core.Path.{_≡_, refl, sym, ap₂, _∙_}
+use native.Mathlib.Omega.{arith}
+use lib.ListN.{length, getD}
+use lib.Seq.{getD-take, getD-drop}
+use Rattle.array.specs.Split.{splitOf}
+use Rattle.array.specs.Path.{onLeft, onRight, path}
+use Rattle.array.proofs.Splits.{split-some, split-less}
+use Rattle.array.proofs.Rows.{lefts, rights, lefts-length, rights-length, row-one, row-step, rows-all}
+use Rattle.array.proofs.Paths.{path-one, path-left, path-right, path-leads}
+use Rattle.simplicity.specs.Types.{Ty, one, sum, product}
+use Rattle.shapes.specs.Shapes.{rowType, products, sideOf, onward, leads, placeOf}
+
+-- there is none, or there is one
+none-some : {A : Type 0} {a : A} → none ≡ some a → ⊥
+none-some e = let z : _≡_ {A = ℕ} 0 1 = cc e in omega arith
+
+-- place k of a row's type is that of element k
+pub places-row : (ts : List Ty) (k : ℕ) → k < length ts → placeOf products (length ts) k (rowType ts) ≡ some (getD ts k one)
+unfolding leads onward sideOf
+places-row = path-leads one product (λ a p x. leads products p a ≡ some x) (λ x. refl) (λ a b x p h. h) (λ a b x p h. h)
+
+-- each place of t is that of its element
+abbrev Right : List Ty → Ty → Type 0
+Right ts t = (k : ℕ) → k < length ts → placeOf products (length ts) k t ≡ some (getD ts k one)
+
+-- a product's places are its left's and its right's
+left-right : (ts : List Ty) (a b : Ty) → 2 ≤ length ts → Right ts (product a b) → Right (lefts ts) a
+unfolding leads onward sideOf
+left-right ts a b two h k o =
+    let n : ℕ = splitOf (length ts) in
+    let l : k < n = omega (arith, lefts-length ts two) in
+    let g : leads products (onLeft ∷ path n k) (product a b) ≡ some (getD ts k one) = rw (path-left (length ts) k two l) at (h k (omega (arith, split-less (length ts) two))) in
+    rw (lefts-length ts two, getD-take n ts k one l) g
+
+right-right : (ts : List Ty) (a b : Ty) → 2 ≤ length ts → Right ts (product a b) → Right (rights ts) b
+unfolding leads onward sideOf
+right-right ts a b two h k o =
+    let n : ℕ = splitOf (length ts) in
+    let l : n + k < length ts = omega (arith, rights-length ts) in
+    let e : n + k - n ≡ k = omega arith in
+    let g : leads products (onRight ∷ path (length ts - n) (n + k - n)) (product a b) ≡ some (getD ts (n + k) one) = rw (path-right (length ts) (n + k) two (omega arith)) at (h (n + k) l) in
+    rw (rights-length ts, getD-drop n ts k one) (rw e at g)
+
+abbrev Whole : List Ty → Type 0
+Whole ts = (t : Ty) → 1 ≤ length ts → Right ts t → t ≡ rowType ts
+
+whole-one : (x : Ty) → Whole (x ∷ [])
+unfolding leads
+whole-one x t l h = rw (row-one one product x) (cc (rw (path-one 0) at (h 0 l)))
+
+-- a type that has two places or more is a product
+whole-more : (ts : List Ty) → 2 ≤ length ts → Whole (lefts ts) → Whole (rights ts) → Whole ts
+unfolding leads onward sideOf
+whole-more ts two l r one o h = absurd (none-some (rw (path-left (length ts) 0 two (split-some (length ts) two)) at (h 0 o)))
+whole-more ts two l r (sum a b) o h = absurd (none-some (rw (path-left (length ts) 0 two (split-some (length ts) two)) at (h 0 o)))
+whole-more ts two l r (product a b) o h =
+    ap₂ product
+    (l a (omega (arith, lefts-length ts two, split-some (length ts) two)) (left-right ts a b two h))
+    (r b (omega (arith, rights-length ts, split-less (length ts) two)) (right-right ts a b two h))
+    ∙ sym (row-step one product ts two)
+
+-- a type whose every place is that of its element is the row's
+pub row-places : (ts : List Ty) (t : Ty) → 1 ≤ length ts → Right ts t → t ≡ rowType ts
+row-places = rows-all Whole (λ t o h. absurd (omega arith)) whole-one whole-more
