@@ -1,0 +1,124 @@
+-- A type's record by its mark: its fields, its sides, and what it is the same as.
+-- Assumes nothing.
+use Prim.Native.Nat.{ℕ, zero, suc, _<_}
+use mathlib.Core.Bool.{Bool, true, false}
+use mathlib.Core.List.{List, [], _∷_}
+use mathlib.Core.Option.{some, none}
+use mathlib.Core.Path.{_≡_, refl, ap, _∙_}
+use native.Mathlib.Omega.{arith}
+use lib.Dec.{T, eqb, lt→ltb}
+use Rattle.laws.specs.Table.{pick, both, among, _also_, every}
+use Rattle.array.specs.Path.{Side, onLeft, onRight}
+use Rattle.simplicity.specs.Types.{Ty, one, sum, product, same}
+use Rattle.simplicity.proofs.Safe.{same-is}
+use Rattle.book.specs.Format.{TYPE, TU, TS, TP}
+use Rattle.book.specs.Index.{mark, field, Lies}
+use Rattle.book.specs.Stands.{Stands}
+use Rattle.book.specs.Tree.{typeOf, asType}
+use Rattle.book.proofs.Standing.{stands-mark, stands-tree, head-lies, head-stands}
+use Rattle.shapes.specs.Shapes.{sums, products, sideOf}
+use Rattle.shapes.specs.Views.{NONE, Gives, nowhere, record-of, isSort, sortOf, sideIs}
+
+-- the mark of a type's record
+abbrev markBy : Ty → ℕ
+markBy one = TU
+markBy (sum a b) = TS
+markBy (product a b) = TP
+
+-- what is no sum has no side as a sum, and no product none as a product
+no-sum : (k : Side) (t : Ty) → (markBy t ≡ TS → ⊥) → sideOf sums k t ≡ none
+unfolding sideOf
+no-sum onLeft one h = refl
+no-sum onRight one h = refl
+no-sum k (sum a b) h = absurd (h refl)
+no-sum onLeft (product a b) h = refl
+no-sum onRight (product a b) h = refl
+
+no-product : (k : Side) (t : Ty) → (markBy t ≡ TP → ⊥) → sideOf products k t ≡ none
+unfolding sideOf
+no-product onLeft one h = refl
+no-product onRight one h = refl
+no-product onLeft (sum a b) h = refl
+no-product onRight (sum a b) h = refl
+no-product k (product a b) h = absurd (h refl)
+
+-- types of different marks are not the same
+unlike : (t u : Ty) → (markBy t ≡ markBy u → ⊥) → same t u ≡ false
+unlike t u h = go (same t u) refl
+  where
+    go : (r : Bool) → same t u ≡ r → r ≡ false
+    go true e = absurd (h (ap markBy (same-is t u e)))
+    go false e = refl
+
+-- unit is what has its mark
+unit-same : (t : Ty) → eqb (markBy t) TU ≡ same t one
+unfolding same
+unit-same one = refl
+unit-same (sum a b) = refl
+unit-same (product a b) = refl
+
+-- what holds of both sorts' marks holds of a sort's
+by-sort : (P : ℕ → Type 0) → P TS → P TP → {m : ℕ} → T (isSort m) → P m
+by-sort P s p {m} t = every (TS ∷ TP ∷ []) P (s also p also tt) m t
+
+module _ {b i : List ℕ} {t : ℕ} (s : Stands b i t TYPE) where
+  -- a sum's tree, a product's
+  sum-tree : mark b i t ≡ TS → typeOf b i t ≡ sum (typeOf b i (field b i t 0)) (typeOf b i (field b i t 1))
+  unfolding asType
+  sum-tree e = ap asType (stands-tree s TS e)
+
+  product-tree : mark b i t ≡ TP → typeOf b i t ≡ product (typeOf b i (field b i t 0)) (typeOf b i (field b i t 1))
+  unfolding asType
+  product-tree e = ap asType (stands-tree s TP e)
+
+  -- a record's mark is its tree's
+  mark-by : mark b i t ≡ markBy (typeOf b i t)
+  unfolding asType
+  mark-by = every (TU ∷ TS ∷ TP ∷ []) (λ m. mark b i t ≡ m → mark b i t ≡ markBy (typeOf b i t))
+      ((λ e. e ∙ rw (stands-tree s TU e)) also (λ e. e ∙ rw (sum-tree e)) also (λ e. e ∙ rw (product-tree e)) also tt)
+      (mark b i t) (stands-mark s (among (TU ∷ TS ∷ TP ∷ [])) tt tt) refl
+
+  -- whether it is unit; where it is of another mark; where it is a sum, a product
+  pub same-unit : eqb (mark b i t) TU ≡ same (typeOf b i t) one
+  same-unit = rw mark-by (unit-same (typeOf b i t))
+
+  pub same-not : {m : ℕ} (u : Ty) → markBy u ≡ m → (mark b i t ≡ m → ⊥) → same (typeOf b i t) u ≡ false
+  same-not u e h = unlike (typeOf b i t) u (λ z. h (mark-by ∙ z ∙ e))
+
+  pub same-sum : mark b i t ≡ TS → (c d : Ty) → same (typeOf b i t) (sum c d) ≡ both (same (typeOf b i (field b i t 0)) c) (same (typeOf b i (field b i t 1)) d)
+  unfolding same
+  same-sum e c d = rw (sum-tree e)
+
+  pub same-product : mark b i t ≡ TP → (c d : Ty) → same (typeOf b i t) (product c d) ≡ both (same (typeOf b i (field b i t 0)) c) (same (typeOf b i (field b i t 1)) d)
+  unfolding same
+  same-product e c d = rw (product-tree e)
+
+  -- its two fields, where it is a sum or a product, lie in the book and name types, which are its sides
+  module _ {m : ℕ} (z : T (isSort m)) (e : mark b i t ≡ m) where
+    pub side-lies : (k : ℕ) → k < 2 → Lies b i t k
+    side-lies k h = by-sort (λ n. mark b i t ≡ n → Lies b i t k) (λ q. head-lies s TS q k (lt→ltb k 2 h)) (λ q. head-lies s TP q k (lt→ltb k 2 h)) z e
+
+    pub side-stands : (k : ℕ) → k < 2 → Stands b i (field b i t k) TYPE
+    side-stands zero h = by-sort (λ n. mark b i t ≡ n → Stands b i (field b i t 0) TYPE) (λ q. head-stands s TS q 0 tt tt) (λ q. head-stands s TP q 0 tt tt) z e
+    side-stands (suc zero) h = by-sort (λ n. mark b i t ≡ n → Stands b i (field b i t 1) TYPE) (λ q. head-stands s TS q 1 tt tt) (λ q. head-stands s TP q 1 tt tt) z e
+    side-stands (suc (suc k)) h = absurd (omega arith)
+
+    pub side-is : (k : ℕ) → k < 2 → sideIs m k (typeOf b i t) ≡ some (typeOf b i (field b i t k))
+    unfolding sideOf
+    side-is zero h = by-sort (λ n. mark b i t ≡ n → sideIs n 0 (typeOf b i t) ≡ some (typeOf b i (field b i t 0))) (λ q. rw (sum-tree q)) (λ q. rw (product-tree q)) z e
+    side-is (suc zero) h = by-sort (λ n. mark b i t ≡ n → sideIs n 1 (typeOf b i t) ≡ some (typeOf b i (field b i t 1))) (λ q. rw (sum-tree q)) (λ q. rw (product-tree q)) z e
+    side-is (suc (suc k)) h = absurd (omega arith)
+
+    pub side-gives : {k x : ℕ} → k < 2 → x ≡ field b i t k → Gives b i (sideIs m k (typeOf b i t)) x
+    side-gives {k} h q = rw q (record-of (side-stands k h) (side-is k h))
+
+  -- what is of another mark has no side
+  module _ {m : ℕ} (z : T (isSort m)) (h : mark b i t ≡ m → ⊥) where
+    pub side-not : (k : Side) → sideOf (sortOf m) k (typeOf b i t) ≡ none
+    side-not k = by-sort (λ n. (mark b i t ≡ n → ⊥) → sideOf (sortOf n) k (typeOf b i t) ≡ none)
+        (λ f. no-sum k (typeOf b i t) (λ e. f (mark-by ∙ e)))
+        (λ f. no-product k (typeOf b i t) (λ e. f (mark-by ∙ e)))
+        z h
+
+    pub side-nowhere : (k : ℕ) → Gives b i (sideIs m k (typeOf b i t)) NONE
+    side-nowhere k = nowhere refl (side-not (pick (eqb k 0) onLeft onRight))
