@@ -1,3 +1,5 @@
+pub mod Declared
 pub mod Same
 pub mod Sides
 pub mod Places
+mod Ways

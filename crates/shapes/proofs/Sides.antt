@@ -4,7 +4,7 @@ use Prim.Native.Nat.{ℕ, zero, suc, _<_}
 use mathlib.Core.Bool.{Bool, true, false}
 use mathlib.Core.List.{List, [], _∷_}
 use mathlib.Core.Option.{some, none}
-use mathlib.Core.Path.{_≡_, refl, ap, _∙_}
+use mathlib.Core.Path.{_≡_, refl, sym, ap, _∙_}
 use native.Mathlib.Omega.{arith}
 use lib.Dec.{T, eqb, lt→ltb}
 use Rattle.laws.specs.Table.{pick, both, among, _also_, every}
@@ -78,47 +78,55 @@ module _ {b i : List ℕ} {t : ℕ} (s : Stands b i t TYPE) where
       ((λ e. e ∙ rw (stands-tree s TU e)) also (λ e. e ∙ rw (sum-tree e)) also (λ e. e ∙ rw (product-tree e)) also tt)
       (mark b i t) (stands-mark s (among (TU ∷ TS ∷ TP ∷ [])) tt tt) refl
 
-  -- whether it is unit; where it is of another mark; where it is a sum, a product
-  pub same-unit : eqb (mark b i t) TU ≡ same (typeOf b i t) one
-  same-unit = rw mark-by (unit-same (typeOf b i t))
+  -- what a look at its mark showed
+  module _ {x : ℕ} (e : x ≡ mark b i t) where
+    -- whether it is unit; where it is of another mark; where it is a sum, a product
+    pub same-unit : eqb x TU ≡ same (typeOf b i t) one
+    same-unit = rw (e ∙ mark-by) (unit-same (typeOf b i t))
 
-  pub same-not : {m : ℕ} (u : Ty) → markBy u ≡ m → (mark b i t ≡ m → ⊥) → same (typeOf b i t) u ≡ false
-  same-not u e h = unlike (typeOf b i t) u (λ z. h (mark-by ∙ z ∙ e))
+    pub same-not : {m : ℕ} (u : Ty) → markBy u ≡ m → (x ≡ m → ⊥) → same (typeOf b i t) u ≡ false
+    same-not u q h = unlike (typeOf b i t) u (λ z. h (e ∙ mark-by ∙ z ∙ q))
 
-  pub same-sum : mark b i t ≡ TS → (c d : Ty) → same (typeOf b i t) (sum c d) ≡ both (same (typeOf b i (field b i t 0)) c) (same (typeOf b i (field b i t 1)) d)
-  unfolding same
-  same-sum e c d = rw (sum-tree e)
+    pub same-sum : x ≡ TS → (c d : Ty) → same (typeOf b i t) (sum c d) ≡ both (same (typeOf b i (field b i t 0)) c) (same (typeOf b i (field b i t 1)) d)
+    unfolding same
+    same-sum q c d = rw (sum-tree (sym e ∙ q))
 
-  pub same-product : mark b i t ≡ TP → (c d : Ty) → same (typeOf b i t) (product c d) ≡ both (same (typeOf b i (field b i t 0)) c) (same (typeOf b i (field b i t 1)) d)
-  unfolding same
-  same-product e c d = rw (product-tree e)
+    pub same-product : x ≡ TP → (c d : Ty) → same (typeOf b i t) (product c d) ≡ both (same (typeOf b i (field b i t 0)) c) (same (typeOf b i (field b i t 1)) d)
+    unfolding same
+    same-product q c d = rw (product-tree (sym e ∙ q))
 
-  -- its two fields, where it is a sum or a product, lie in the book and name types, which are its sides
-  module _ {m : ℕ} (z : T (isSort m)) (e : mark b i t ≡ m) where
-    pub side-lies : (k : ℕ) → k < 2 → Lies b i t k
-    side-lies k h = by-sort (λ n. mark b i t ≡ n → Lies b i t k) (λ q. head-lies s TS q k (lt→ltb k 2 h)) (λ q. head-lies s TP q k (lt→ltb k 2 h)) z e
+    -- its two fields, where it is a sum or a product, lie in the book and name types, which are its sides
+    module _ {m : ℕ} (z : T (isSort m)) (q : x ≡ m) where
+      at-sort : (P : ℕ → Type 0) → (mark b i t ≡ TS → P TS) → (mark b i t ≡ TP → P TP) → P m
+      at-sort P f g = by-sort (λ n. mark b i t ≡ n → P n) f g z (sym e ∙ q)
 
-    pub side-stands : (k : ℕ) → k < 2 → Stands b i (field b i t k) TYPE
-    side-stands zero h = by-sort (λ n. mark b i t ≡ n → Stands b i (field b i t 0) TYPE) (λ q. head-stands s TS q 0 tt tt) (λ q. head-stands s TP q 0 tt tt) z e
-    side-stands (suc zero) h = by-sort (λ n. mark b i t ≡ n → Stands b i (field b i t 1) TYPE) (λ q. head-stands s TS q 1 tt tt) (λ q. head-stands s TP q 1 tt tt) z e
-    side-stands (suc (suc k)) h = absurd (omega arith)
+      pub side-lies : (k : ℕ) → k < 2 → Lies b i t k
+      side-lies k h = at-sort (λ n. Lies b i t k) (λ o. head-lies s TS o k (lt→ltb k 2 h)) (λ o. head-lies s TP o k (lt→ltb k 2 h))
 
-    pub side-is : (k : ℕ) → k < 2 → sideIs m k (typeOf b i t) ≡ some (typeOf b i (field b i t k))
-    unfolding sideOf
-    side-is zero h = by-sort (λ n. mark b i t ≡ n → sideIs n 0 (typeOf b i t) ≡ some (typeOf b i (field b i t 0))) (λ q. rw (sum-tree q)) (λ q. rw (product-tree q)) z e
-    side-is (suc zero) h = by-sort (λ n. mark b i t ≡ n → sideIs n 1 (typeOf b i t) ≡ some (typeOf b i (field b i t 1))) (λ q. rw (sum-tree q)) (λ q. rw (product-tree q)) z e
-    side-is (suc (suc k)) h = absurd (omega arith)
+      pub side-stands : (k : ℕ) → k < 2 → Stands b i (field b i t k) TYPE
+      side-stands zero h = at-sort (λ n. Stands b i (field b i t 0) TYPE) (λ o. head-stands s TS o 0 tt tt) (λ o. head-stands s TP o 0 tt tt)
+      side-stands (suc zero) h = at-sort (λ n. Stands b i (field b i t 1) TYPE) (λ o. head-stands s TS o 1 tt tt) (λ o. head-stands s TP o 1 tt tt)
+      side-stands (suc (suc k)) h = absurd (omega arith)
 
-    pub side-gives : {k x : ℕ} → k < 2 → x ≡ field b i t k → Gives b i (sideIs m k (typeOf b i t)) x
-    side-gives {k} h q = rw q (record-of (side-stands k h) (side-is k h))
+      pub side-is : (k : ℕ) → k < 2 → sideIs m k (typeOf b i t) ≡ some (typeOf b i (field b i t k))
+      unfolding sideOf
+      side-is zero h = at-sort (λ n. sideIs n 0 (typeOf b i t) ≡ some (typeOf b i (field b i t 0))) (λ o. rw (sum-tree o)) (λ o. rw (product-tree o))
+      side-is (suc zero) h = at-sort (λ n. sideIs n 1 (typeOf b i t) ≡ some (typeOf b i (field b i t 1))) (λ o. rw (sum-tree o)) (λ o. rw (product-tree o))
+      side-is (suc (suc k)) h = absurd (omega arith)
 
-  -- what is of another mark has no side
-  module _ {m : ℕ} (z : T (isSort m)) (h : mark b i t ≡ m → ⊥) where
-    pub side-not : (k : Side) → sideOf (sortOf m) k (typeOf b i t) ≡ none
-    side-not k = by-sort (λ n. (mark b i t ≡ n → ⊥) → sideOf (sortOf n) k (typeOf b i t) ≡ none)
-        (λ f. no-sum k (typeOf b i t) (λ e. f (mark-by ∙ e)))
-        (λ f. no-product k (typeOf b i t) (λ e. f (mark-by ∙ e)))
-        z h
+      pub side-at : {k y : ℕ} → k < 2 → y ≡ field b i t k → Stands b i y TYPE
+      side-at {k} h w = rw w (side-stands k h)
 
-    pub side-nowhere : (k : ℕ) → Gives b i (sideIs m k (typeOf b i t)) NONE
-    side-nowhere k = nowhere refl (side-not (pick (eqb k 0) onLeft onRight))
+      pub side-gives : {k y : ℕ} → k < 2 → y ≡ field b i t k → Gives b i (sideIs m k (typeOf b i t)) y
+      side-gives {k} h w = rw w (record-of (side-stands k h) (side-is k h))
+
+    -- what is of another mark has no side
+    module _ {m : ℕ} (z : T (isSort m)) (h : x ≡ m → ⊥) where
+      pub side-not : (k : Side) → sideOf (sortOf m) k (typeOf b i t) ≡ none
+      side-not k = by-sort (λ n. (x ≡ n → ⊥) → sideOf (sortOf n) k (typeOf b i t) ≡ none)
+          (λ f. no-sum k (typeOf b i t) (λ o. f (e ∙ mark-by ∙ o)))
+          (λ f. no-product k (typeOf b i t) (λ o. f (e ∙ mark-by ∙ o)))
+          z h
+
+      pub side-nowhere : (k : ℕ) → Gives b i (sideIs m k (typeOf b i t)) NONE
+      side-nowhere k = nowhere refl (side-not (pick (eqb k 0) onLeft onRight))
