@@ -3,3 +3,6 @@ pub mod Same
 pub mod Sides
 pub mod Places
 mod Ways
+mod Powers
+mod Halves
+mod Lists

@@ -1,19 +1,23 @@
 -- A type is the type of a row exactly where each of its places is.
 -- Assumes nothing.
 use Prim.Native.Nat.{ℕ, _+_, _-_, _≤_, _<_}
+use mathlib.Core.Bool.{Bool, true, false}
 use mathlib.Core.List.{List, [], _∷_}
 use mathlib.Core.Option.{Option, some, none}
 use mathlib.Core.Path.{_≡_, refl, sym, ap₂, _∙_}
 use native.Mathlib.Omega.{arith}
 use lib.ListN.{length, getD}
 use lib.Seq.{getD-take, getD-drop}
+use Rattle.laws.specs.Order.{by-lt}
+use Rattle.laws.specs.Table.{true-false}
 use Rattle.array.specs.Split.{splitOf}
 use Rattle.array.specs.Path.{onLeft, onRight, path}
 use Rattle.array.proofs.Splits.{split-some, split-less}
 use Rattle.array.proofs.Rows.{lefts, rights, lefts-length, rights-length, row-one, row-step, rows-all}
 use Rattle.array.proofs.Paths.{path-one, path-left, path-right, path-leads}
-use Rattle.simplicity.specs.Types.{Ty, one, sum, product}
-use Rattle.shapes.specs.Shapes.{rowType, products, sideOf, onward, leads, placeOf}
+use Rattle.simplicity.specs.Types.{Ty, one, sum, product, same}
+use Rattle.simplicity.proofs.Safe.{same-is, is-same}
+use Rattle.shapes.specs.Shapes.{rowType, products, sideOf, onward, leads, placeOf, isAt}
 
 -- there is none, or there is one
 none-some : {A : Type 0} {a : A} → none ≡ some a → ⊥
@@ -67,3 +71,30 @@ whole-more ts two l r (product a b) o h =
 -- a type whose every place is that of its element is the row's
 pub row-places : (ts : List Ty) (t : Ty) → 1 ≤ length ts → Right ts t → t ≡ rowType ts
 row-places = rows-all Whole (λ t o h. absurd (omega arith)) whole-one whole-more
+
+-- the places before k of n are what f says
+pub record Agrees (n : ℕ) (f : ℕ → Ty) (t : Ty) (k : ℕ) : Type 0 where
+  pub each : (j : ℕ) → j < k → placeOf products n j t ≡ some (f j)
+
+pub agrees-none : {n : ℕ} {f : ℕ → Ty} {t : Ty} → Agrees n f t 0
+agrees-none = record { each = λ j h. absurd (omega arith) }
+
+pub agrees-next : {n : ℕ} {f : ℕ → Ty} {t : Ty} {k : ℕ} → Agrees n f t k → placeOf products n k t ≡ some (f k) → Agrees n f t (k + 1)
+agrees-next {k = k} g e = record { each = λ j o. by-lt j k (g .each j) (λ l. let q : j ≡ k = omega arith in rw q e) }
+
+-- f says what a row has: where all places are so, the type is the row's, and where one is another, it is not
+module _ (ts : List Ty) {f : ℕ → Ty} {n : ℕ} (z : length ts ≡ n) (s : (j : ℕ) → j < n → getD ts j one ≡ f j) (t : Ty) where
+  pub agrees-all : {k : ℕ} → Agrees n f t k → 1 ≤ n → n ≤ k → same t (rowType ts) ≡ true
+  agrees-all g h l = is-same t (rowType ts) (row-places ts t (omega arith) (λ j o. let q : j < n = omega arith in rw (z, s j q) (g .each j (omega arith))))
+
+  pub agrees-not : (k : ℕ) → k < n → isAt (placeOf products n k t) (f k) ≡ false → same t (rowType ts) ≡ false
+  unfolding isAt
+  agrees-not k o h = go (same t (rowType ts)) refl
+    where
+      go : (r : Bool) → same t (rowType ts) ≡ r → r ≡ false
+      go false e = refl
+      go true e =
+          let l : k < length ts = omega arith in
+          let g : placeOf products n k t ≡ some (f k) = rw (same-is t (rowType ts) e, ← s k o, ← z) (places-row ts k l) in
+          let w : same (f k) (f k) ≡ false = rw g at h in
+          absurd (true-false (sym (is-same (f k) (f k) refl) ∙ w))

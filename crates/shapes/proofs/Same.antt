@@ -4,7 +4,7 @@ use Prim.Native.Nat.{ℕ}
 use mathlib.Core.Bool.{Bool, true, false, not}
 use mathlib.Core.List.{List}
 use mathlib.Core.Option.{Option, some, none}
-use mathlib.Core.Path.{_≡_, refl, sym, ap}
+use mathlib.Core.Path.{_≡_, refl, sym, ap, _∙_}
 use native.Mathlib.Omega.{arith}
 use borrow.Author.Tests.{eqb-true, eq-eqb, ne-eqb}
 use lib.Dec.{eqb}
@@ -64,3 +64,11 @@ module _ {b i : List ℕ} where
   pub gives-some : {o : Option Ty} {x : ℕ} → Gives b i o x → (x ≡ NONE → ⊥) → o ≡ some (typeOf b i x)
   gives-some (nowhere e n) z = absurd (z e)
   gives-some (record-of s e) z = e
+
+  -- it is type u's record, or another
+  pub gives-is : {o : Option Ty} {x u : ℕ} → Gives b i o x → Stands b i u TYPE → x ≡ u → o ≡ some (typeOf b i u)
+  gives-is (nowhere e n) r z = absurd (stands-some r (sym z ∙ e))
+  gives-is (record-of s e) r z = rw (← z) e
+
+  pub gives-other : {o : Option Ty} {x u : ℕ} → Gives b i o x → Stands b i u TYPE → (x ≡ u → ⊥) → isAt o (typeOf b i u) ≡ false
+  gives-other {x = x} {u = u} g r z = sym (gives-at g r) ∙ ne-eqb x u z
