@@ -1,7 +1,7 @@
 -- Types of lists, block by block: each block is half as many as the one before.
 -- Assumes nothing.
 use Prim.Native.Nat.{ℕ, suc, _-_, _/_, _≤_, _<_}
-use mathlib.Core.Bool.{Bool, true, false}
+use mathlib.Core.Bool.{Bool, true, false, not}
 use mathlib.Core.List.{List}
 use mathlib.Core.Option.{Option, none}
 use mathlib.Core.Path.{_≡_, refl, sym, ap, subst, _∙_}
@@ -67,8 +67,8 @@ module _ {b i : List ℕ} (a : Ty) {o : Bool} {t n : ℕ} (g : Down b i (isLists
       unfolding fewer
       list-sides = rw (half-top (g .power) h) (same-product (g .stands) e l r _ _ q)
 
-      pub list-other : u ≡ false → false ≡ o
+      pub list-other : not u ≡ true → false ≡ o
       list-other z = sym (down-is g h ∙ first-fails _ v list-sides z)
 
-      pub list-next : u ≡ true → Down b i (isLists a) o w (n / 2)
+      pub list-next : not u ≡ false → Down b i (isLists a) o w (n / 2)
       list-next z = down-next g h (side-at (g .stands) e {m = TP} tt q {k = 1} (omega arith) r) (first-holds _ v list-sides z)

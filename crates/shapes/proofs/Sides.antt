@@ -1,11 +1,12 @@
 -- A type's record by its mark: its fields, its sides, and what it is the same as.
 -- Assumes nothing.
 use Prim.Native.Nat.{ℕ, zero, suc, _<_}
-use mathlib.Core.Bool.{Bool, true, false}
+use mathlib.Core.Bool.{Bool, true, false, not}
 use mathlib.Core.List.{List, [], _∷_}
 use mathlib.Core.Option.{some, none}
 use mathlib.Core.Path.{_≡_, refl, sym, ap, _∙_}
 use native.Mathlib.Omega.{arith}
+use borrow.Author.Tests.{not-true, not-false}
 use lib.Dec.{T, eqb, lt→ltb}
 use Rattle.laws.specs.Table.{pick, both, among, _also_, every}
 use Rattle.array.specs.Path.{Side, onLeft, onRight}
@@ -57,12 +58,12 @@ unit-same one = refl
 unit-same (sum a b) = refl
 unit-same (product a b) = refl
 
--- a test of two, whose first is known: it fails, or it is the second
-pub first-fails : {r u w : Bool} (v : Bool) → w ≡ u → r ≡ both u v → w ≡ false → r ≡ false
-first-fails v l e h = rw (e, ← l, h)
+-- a test of two, after a look at the first: it fails, or it is the second
+pub first-fails : {r u w : Bool} (v : Bool) → w ≡ u → r ≡ both u v → not w ≡ true → r ≡ false
+first-fails {w = w} v l e h = rw (e, ← l, not-true w h)
 
-pub first-holds : {r u w : Bool} (v : Bool) → w ≡ u → r ≡ both u v → w ≡ true → r ≡ v
-first-holds v l e h = rw (e, ← l, h)
+pub first-holds : {r u w : Bool} (v : Bool) → w ≡ u → r ≡ both u v → not w ≡ false → r ≡ v
+first-holds {w = w} v l e h = rw (e, ← l, not-false w h)
 
 -- what holds of both sorts' marks holds of a sort's
 by-sort : (P : ℕ → Type 0) → P TS → P TP → {m : ℕ} → T (isSort m) → P m
