@@ -19,7 +19,7 @@ use Rattle.book.specs.Stands.{Stands}
 use Rattle.book.specs.Tree.{typeOf}
 use Rattle.shapes.specs.Shapes.{products, sideOf, onward, alike, isAt, halvedOf}
 use Rattle.shapes.specs.Views.{NONE, Gives, nowhere, record-of}
-use Rattle.shapes.proofs.Same.{types-same}
+use Rattle.shapes.proofs.Same.{types-same, gives-at, gives-none, gives-some}
 use Rattle.shapes.proofs.Sides.{side-at, side-is, side-not}
 use Rattle.shapes.proofs.Powers.{Down, down-is, down-next, down-end}
 
@@ -42,12 +42,25 @@ unfolding isAt onward
 halved-pair k p q a h true e = rw (← same-is p q e, both-twice) h
 halved-pair k p q a h false e = both-like p q (power a k) e
 
-pub halved-same : (k : ℕ) (t a : Ty) → same t (power a k) ≡ isAt (halvedOf k t) a
+halved-same : (k : ℕ) (t a : Ty) → same t (power a k) ≡ isAt (halvedOf k t) a
 unfolding halvedOf power same isAt onward alike sideOf
 halved-same zero t a = refl
 halved-same (suc k) one a = refl
 halved-same (suc k) (sum p q) a = refl
 halved-same (suc k) (product p q) a = halved-pair k p q a (halved-same k p a) (same p q) refl
+
+-- so by what halving gives: there is none; there is one, of which w tells; it is compared with a type's record
+module _ {b i : List ℕ} (k : ℕ) (t : Ty) {x : ℕ} (g : Gives b i (halvedOf k t) x) where
+  pub power-none : (a : Ty) → x ≡ NONE → false ≡ same t (power a k)
+  unfolding isAt
+  power-none a z = sym (halved-same k t a ∙ rw (gives-none g z))
+
+  pub power-some : (a : Ty) {w : Bool} → (x ≡ NONE → ⊥) → w ≡ same (typeOf b i x) a → w ≡ same t (power a k)
+  unfolding isAt
+  power-some a z e = e ∙ sym (halved-same k t a ∙ rw (gives-some g z))
+
+  pub power-at : {u : ℕ} → Stands b i u TYPE → eqb x u ≡ same t (power (typeOf b i u) k)
+  power-at {u} s = gives-at g s ∙ sym (halved-same k t (typeOf b i u))
 
 -- a type twice is one; two types are none
 alike-yes : (a : Ty) → alike (some a) (some a) ≡ some a

@@ -7,7 +7,7 @@ use mathlib.Core.Option.{Option, none}
 use mathlib.Core.Path.{_≡_, refl, sym, ap, subst, _∙_}
 use native.Mathlib.Omega.{arith}
 use Rattle.laws.specs.Table.{both}
-use Rattle.array.specs.Split.{topOf}
+use Rattle.array.specs.Split.{halvings, topOf}
 use Rattle.array.specs.Path.{onRight}
 use Rattle.simplicity.specs.Types.{Ty, power, fewer, same}
 use Rattle.book.specs.Format.{TYPE, TS, TP}
@@ -53,8 +53,8 @@ module _ {b i : List ℕ} {o : Option Ty} {t n : ℕ} (g : Down b i lastOf o t n
 
 -- the blocks before record t are a list's
 module _ {b i : List ℕ} (a : Ty) {o : Bool} {t n : ℕ} (g : Down b i (isLists a) o t n) where
-  pub list-end : {w : Bool} → n ≤ 1 → w ≡ same (typeOf b i t) (blockType a 0) → w ≡ o
-  unfolding fewer power
+  pub list-end : {w : Bool} → n ≤ 1 → w ≡ same (typeOf b i t) (blockType a (topOf 1)) → w ≡ o
+  unfolding fewer power topOf halvings
   list-end h e = e ∙ sym (down-end g h)
 
   module _ (h : 1 < n) {x : ℕ} (e : x ≡ mark b i t) where

@@ -1,15 +1,15 @@
 -- A type is the type of a row exactly where each of its places is.
 -- Assumes nothing.
-use Prim.Native.Nat.{ℕ, _+_, _-_, _≤_, _<_}
+use Prim.Native.Nat.{ℕ, zero, suc, _+_, _-_, _≤_, _<_}
 use mathlib.Core.Bool.{Bool, true, false}
 use mathlib.Core.List.{List, [], _∷_}
 use mathlib.Core.Option.{Option, some, none}
 use mathlib.Core.Path.{_≡_, refl, sym, ap₂, _∙_}
 use native.Mathlib.Omega.{arith}
-use lib.ListN.{length, getD}
+use lib.ListN.{length, getD, replicate, length-replicate, getD-replicate}
 use lib.Seq.{getD-take, getD-drop}
 use Rattle.laws.specs.Order.{by-lt}
-use Rattle.laws.specs.Table.{true-false}
+use Rattle.laws.specs.Table.{both, below, true-false}
 use Rattle.array.specs.Split.{splitOf}
 use Rattle.array.specs.Path.{onLeft, onRight, path}
 use Rattle.array.proofs.Splits.{split-some, split-less}
@@ -17,7 +17,7 @@ use Rattle.array.proofs.Rows.{lefts, rights, lefts-length, rights-length, row-o
 use Rattle.array.proofs.Paths.{path-one, path-left, path-right, path-leads}
 use Rattle.simplicity.specs.Types.{Ty, one, sum, product, same}
 use Rattle.simplicity.proofs.Safe.{same-is, is-same}
-use Rattle.shapes.specs.Shapes.{rowType, products, sideOf, onward, leads, placeOf, isAt}
+use Rattle.shapes.specs.Shapes.{rowType, arrayType, products, sideOf, onward, leads, placeOf, isAt}
 
 -- there is none, or there is one
 none-some : {A : Type 0} {a : A} → none ≡ some a → ⊥
@@ -98,3 +98,23 @@ module _ (ts : List Ty) {f : ℕ → Ty} {n : ℕ} (z : length ts ≡ n) (s : (j
           let g : placeOf products n k t ≡ some (f k) = rw (same-is t (rowType ts) e, ← s k o, ← z) (places-row ts k l) in
           let w : same (f k) (f k) ≡ false = rw g at h in
           absurd (true-false (sym (is-same (f k) (f k) refl) ∙ w))
+
+-- so for n of one type
+module _ (a : Ty) {n : ℕ} where
+  pub array-all : {t : Ty} {k : ℕ} → Agrees n (λ j. a) t k → 1 ≤ n → n ≤ k → true ≡ same t (arrayType a n)
+  array-all {t} g h l = sym (agrees-all (replicate n a) (length-replicate n a) (λ j o. getD-replicate n j a one o) t g h l)
+
+  pub array-not : (t : Ty) (k : ℕ) → k < n → isAt (placeOf products n k t) a ≡ false → false ≡ same t (arrayType a n)
+  array-not t k o h = sym (agrees-not (replicate n a) {f = λ j. a} (length-replicate n a) (λ j l. getD-replicate n j a one l) t k o h)
+
+-- the test f passes at each number below k, and at k; it fails at one
+pub below-next : (f : ℕ → Bool) (k : ℕ) → below f k ≡ true → f k ≡ true → below f (k + 1) ≡ true
+below-next f k h e = rw (e, h)
+
+pub below-not : (f : ℕ → Bool) (n k : ℕ) → k < n → f k ≡ false → below f n ≡ false
+below-not f zero k o e = absurd (omega arith)
+below-not f (suc n) k o e = by-lt k n (λ l. both-false (f n) (below f n) (below-not f n k l e)) (λ l. let q : k ≡ n = omega arith in rw (← q, e))
+  where
+    both-false : (a b : Bool) → b ≡ false → both a b ≡ false
+    both-false true b h = h
+    both-false false b h = refl

@@ -6,7 +6,7 @@ use mathlib.Core.List.{List}
 use mathlib.Core.Option.{Option, some, none}
 use mathlib.Core.Path.{_≡_, refl, sym, ap, _∙_}
 use native.Mathlib.Omega.{arith}
-use borrow.Author.Tests.{eqb-true, eq-eqb, ne-eqb}
+use borrow.Author.Tests.{eqb-true, eq-eqb, ne-eqb, not-true, not-false}
 use lib.Dec.{eqb}
 use Rattle.laws.specs.Order.{by-lt}
 use Rattle.simplicity.specs.Types.{Ty, same}
@@ -52,6 +52,12 @@ module _ {b i : List ℕ} where
   unfolding isThere
   gives-there {x = x} (nowhere e n) = rw n (eq-eqb x NONE e)
   gives-there {x = x} (record-of s e) = rw e (ne-eqb x NONE (stands-some s))
+
+  pub there-not : {o : Option Ty} {x : ℕ} → Gives b i o x → x ≡ NONE → isThere o ≡ false
+  there-not {o} {x} g z = not-true (isThere o) (sym (gives-there g) ∙ eq-eqb x NONE z)
+
+  pub there-is : {o : Option Ty} {x : ℕ} → Gives b i o x → (x ≡ NONE → ⊥) → isThere o ≡ true
+  there-is {o} {x} g z = not-false (isThere o) (sym (gives-there g) ∙ ne-eqb x NONE z)
 
   pub gives-none : {o : Option Ty} {x : ℕ} → Gives b i o x → x ≡ NONE → o ≡ none
   gives-none (nowhere e n) z = n
