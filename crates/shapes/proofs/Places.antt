@@ -109,7 +109,7 @@ module _ (a : Ty) {n : ℕ} where
 
 -- the test f passes at each number below k, and at k; it fails at one
 pub below-next : (f : ℕ → Bool) (k : ℕ) → below f k ≡ true → f k ≡ true → below f (k + 1) ≡ true
-below-next f k h e = rw (e, h)
+below-next f k h e = let q : k + 1 ≡ suc k = omega arith in rw (q, e) h
 
 pub below-not : (f : ℕ → Bool) (n k : ℕ) → k < n → f k ≡ false → below f n ≡ false
 below-not f zero k o e = absurd (omega arith)

@@ -24,5 +24,5 @@ element-of-spec =
     (λ c κs. side-lies (c .before .before .before .loop .inv .stands) (c .before .mark-at .ensures) {m = TP} tt (c .if1 .left) 1 (omega arith))
     (λ c. omega (arith, c .before .before .before .loop-test .taken))
     (λ c. element-next (c .before .before .before .before .loop .inv) (c .before .before .before .loop-test .taken) (c .before .before .mark-at .ensures) (c .before .if1 .left) (c .field-at .ensures))
-    (λ c κs. ((c .before .loop .inv .stands), tt, omega arith))
+    (λ c κs. ((c .before .loop .inv .stands), (tt, omega arith)))
     (λ c. element-end (c .before .before .loop .inv) (c .before .loop-test .left) (c .side .ensures)))

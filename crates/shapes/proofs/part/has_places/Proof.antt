@@ -20,7 +20,7 @@ has-places-spec =
     (λ book index t n k₀ k. (k ≤ n) × (below (λ j. isThere (placeOf sums n j (typeOf book index t))) k ≡ true))
     (λ book index t n k₀ k. n - k)
     (λ c. (omega arith, refl))
-    (λ c κs. ((c .before .before .before .before .pre .0), tt, (c .loop-test .taken), (c .before .before .before .before .pre .1)))
+    (λ c κs. ((c .before .before .before .before .pre .0), (tt, ((c .loop-test .taken), (c .before .before .before .before .pre .1)))))
     (λ c. sym (below-not (λ j. isThere (placeOf sums (c .before .before .before .before .before .before .args .n) j (typeOf (c .before .before .before .before .before .before .args .book .now) (c .before .before .before .before .before .before .args .index .now) (c .before .before .before .before .before .before .args .t)))) (c .before .before .before .before .before .before .args .n) (c .before .before .before .loop .k) (c .before .before .loop-test .taken) (there-not (c .before .place .ensures) (c .if1 .taken))))
     (λ c. omega (arith, c .before .before .loop-test .taken, c .before .before .before .before .before .before .pre .1))
     (λ c. omega (arith, c .before .before .loop-test .taken))

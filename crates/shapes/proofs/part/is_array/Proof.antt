@@ -15,7 +15,7 @@ is-array-spec =
     (λ book index t n element k₀ k. Agrees n (λ j. typeOf book index element) (typeOf book index t) k)
     (λ book index t n element k₀ k. n - k)
     (λ c. agrees-none)
-    (λ c κs. ((c .before .before .before .before .pre .0), tt, (c .loop-test .taken), (c .before .before .before .before .pre .1 .1 .1)))
+    (λ c κs. ((c .before .before .before .before .pre .0), (tt, ((c .loop-test .taken), (c .before .before .before .before .pre .1 .1 .1)))))
     (λ c. array-not (typeOf (c .before .before .before .before .before .before .args .book .now) (c .before .before .before .before .before .before .args .index .now) (c .before .before .before .before .before .before .args .element)) (typeOf (c .before .before .before .before .before .before .args .book .now) (c .before .before .before .before .before .before .args .index .now) (c .before .before .before .before .before .before .args .t)) (c .before .before .before .loop .k) (c .before .before .loop-test .taken) (gives-other (c .before .place .ensures) (c .before .before .before .before .before .before .pre .1 .0) (c .if1 .taken)))
     (λ c. omega (arith, c .before .before .loop-test .taken, c .before .before .before .before .before .before .pre .1 .1 .1))
     (λ c. omega (arith, c .before .before .loop-test .taken))
