@@ -17,7 +17,7 @@ use Rattle.book.specs.Format.{TYPE, TP}
 use Rattle.book.specs.Index.{mark, field}
 use Rattle.book.specs.Stands.{Stands}
 use Rattle.book.specs.Tree.{typeOf}
-use Rattle.shapes.specs.Shapes.{products, sideOf, onward, alike, isAt, halvedOf}
+use Rattle.shapes.specs.Shapes.{sideOf, onward, alike, isAt, halvedOf}
 use Rattle.shapes.specs.Views.{NONE, Gives, nowhere, record-of}
 use Rattle.shapes.proofs.Same.{types-same, gives-at, gives-none, gives-some}
 use Rattle.shapes.proofs.Sides.{side-at, side-is, side-not}

@@ -3,7 +3,7 @@
 use Prim.Native.Nat.{ℕ, zero, suc, _+_, _-_, _≤_, _<_}
 use mathlib.Core.Bool.{Bool, true, false}
 use mathlib.Core.List.{List, [], _∷_}
-use mathlib.Core.Option.{Option, some, none}
+use mathlib.Core.Option.{some, none}
 use mathlib.Core.Path.{_≡_, refl, sym, ap₂, _∙_}
 use native.Mathlib.Omega.{arith}
 use lib.ListN.{length, getD, replicate, length-replicate, getD-replicate}
@@ -84,10 +84,10 @@ agrees-next {k = k} g e = record { each = λ j o. by-lt j k (g .each j) (λ l. l
 
 -- f says what a row has: where all places are so, the type is the row's, and where one is another, it is not
 module _ (ts : List Ty) {f : ℕ → Ty} {n : ℕ} (z : length ts ≡ n) (s : (j : ℕ) → j < n → getD ts j one ≡ f j) (t : Ty) where
-  pub agrees-all : {k : ℕ} → Agrees n f t k → 1 ≤ n → n ≤ k → same t (rowType ts) ≡ true
+  agrees-all : {k : ℕ} → Agrees n f t k → 1 ≤ n → n ≤ k → same t (rowType ts) ≡ true
   agrees-all g h l = is-same t (rowType ts) (row-places ts t (omega arith) (λ j o. let q : j < n = omega arith in rw (z, s j q) (g .each j (omega arith))))
 
-  pub agrees-not : (k : ℕ) → k < n → isAt (placeOf products n k t) (f k) ≡ false → same t (rowType ts) ≡ false
+  agrees-not : (k : ℕ) → k < n → isAt (placeOf products n k t) (f k) ≡ false → same t (rowType ts) ≡ false
   unfolding isAt
   agrees-not k o h = go (same t (rowType ts)) refl
     where

@@ -32,7 +32,7 @@ module _ {x : ℕ} (p : T (among powers x)) where
   pub half-top : 1 < x → topOf x ≡ suc (topOf (x / 2))
   half-top h = eqb→eq (topOf x) (suc (topOf (x / 2))) (both-right (among powers (x / 2)) (eqb (topOf x) (suc (topOf (x / 2)))) (both-halves h))
 
-  pub last-power : x ≤ 1 → x ≡ 1
+  last-power : x ≤ 1 → x ≡ 1
   last-power h = eqb→eq x 1 (rw (le-ltb 1 x h) at (all-halves x p))
 
 -- a list's bound is a power of two above 1

@@ -2,13 +2,13 @@
 -- Assumes nothing.
 use Prim.Native.Nat.{ℕ, _-_, _≤_, _<_}
 use mathlib.Core.List.{List}
-use mathlib.Core.Option.{Option, some, none}
+use mathlib.Core.Option.{Option}
 use mathlib.Core.Path.{_≡_, refl, _∙_}
 use native.Mathlib.Omega.{arith}
 use lib.Dec.{T}
 use Rattle.laws.specs.Order.{by-lt}
 use Rattle.array.specs.Split.{splitOf, Split}
-use Rattle.array.specs.Path.{onLeft, onRight, path}
+use Rattle.array.specs.Path.{onLeft, onRight}
 use Rattle.array.proofs.Paths.{path-one, path-left, path-right}
 use Rattle.simplicity.specs.Types.{Ty}
 use Rattle.book.specs.Format.{TYPE}
