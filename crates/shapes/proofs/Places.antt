@@ -1,19 +1,23 @@
 -- A type is the type of a row exactly where each of its places is.
 -- Assumes nothing.
-use Prim.Native.Nat.{ℕ, _+_, _-_, _≤_, _<_}
+use Prim.Native.Nat.{ℕ, zero, suc, _+_, _-_, _≤_, _<_}
+use mathlib.Core.Bool.{Bool, true, false}
 use mathlib.Core.List.{List, [], _∷_}
-use mathlib.Core.Option.{Option, some, none}
+use mathlib.Core.Option.{some, none}
 use mathlib.Core.Path.{_≡_, refl, sym, ap₂, _∙_}
 use native.Mathlib.Omega.{arith}
-use lib.ListN.{length, getD}
+use lib.ListN.{length, getD, replicate, length-replicate, getD-replicate}
 use lib.Seq.{getD-take, getD-drop}
+use Rattle.laws.specs.Order.{by-lt}
+use Rattle.laws.specs.Table.{both, below, true-false}
 use Rattle.array.specs.Split.{splitOf}
 use Rattle.array.specs.Path.{onLeft, onRight, path}
 use Rattle.array.proofs.Splits.{split-some, split-less}
 use Rattle.array.proofs.Rows.{lefts, rights, lefts-length, rights-length, row-one, row-step, rows-all}
 use Rattle.array.proofs.Paths.{path-one, path-left, path-right, path-leads}
-use Rattle.simplicity.specs.Types.{Ty, one, sum, product}
-use Rattle.shapes.specs.Shapes.{rowType, products, sideOf, onward, leads, placeOf}
+use Rattle.simplicity.specs.Types.{Ty, one, sum, product, same}
+use Rattle.simplicity.proofs.Safe.{same-is, is-same}
+use Rattle.shapes.specs.Shapes.{rowType, arrayType, products, sideOf, onward, leads, placeOf, isAt}
 
 -- there is none, or there is one
 none-some : {A : Type 0} {a : A} → none ≡ some a → ⊥
@@ -67,3 +71,50 @@ whole-more ts two l r (product a b) o h =
 -- a type whose every place is that of its element is the row's
 pub row-places : (ts : List Ty) (t : Ty) → 1 ≤ length ts → Right ts t → t ≡ rowType ts
 row-places = rows-all Whole (λ t o h. absurd (omega arith)) whole-one whole-more
+
+-- the places before k of n are what f says
+pub record Agrees (n : ℕ) (f : ℕ → Ty) (t : Ty) (k : ℕ) : Type 0 where
+  pub each : (j : ℕ) → j < k → placeOf products n j t ≡ some (f j)
+
+pub agrees-none : {n : ℕ} {f : ℕ → Ty} {t : Ty} → Agrees n f t 0
+agrees-none = record { each = λ j h. absurd (omega arith) }
+
+pub agrees-next : {n : ℕ} {f : ℕ → Ty} {t : Ty} {k : ℕ} → Agrees n f t k → placeOf products n k t ≡ some (f k) → Agrees n f t (k + 1)
+agrees-next {k = k} g e = record { each = λ j o. by-lt j k (g .each j) (λ l. let q : j ≡ k = omega arith in rw q e) }
+
+-- f says what a row has: where all places are so, the type is the row's, and where one is another, it is not
+module _ (ts : List Ty) {f : ℕ → Ty} {n : ℕ} (z : length ts ≡ n) (s : (j : ℕ) → j < n → getD ts j one ≡ f j) (t : Ty) where
+  agrees-all : {k : ℕ} → Agrees n f t k → 1 ≤ n → n ≤ k → same t (rowType ts) ≡ true
+  agrees-all g h l = is-same t (rowType ts) (row-places ts t (omega arith) (λ j o. let q : j < n = omega arith in rw (z, s j q) (g .each j (omega arith))))
+
+  agrees-not : (k : ℕ) → k < n → isAt (placeOf products n k t) (f k) ≡ false → same t (rowType ts) ≡ false
+  unfolding isAt
+  agrees-not k o h = go (same t (rowType ts)) refl
+    where
+      go : (r : Bool) → same t (rowType ts) ≡ r → r ≡ false
+      go false e = refl
+      go true e =
+          let l : k < length ts = omega arith in
+          let g : placeOf products n k t ≡ some (f k) = rw (same-is t (rowType ts) e, ← s k o, ← z) (places-row ts k l) in
+          let w : same (f k) (f k) ≡ false = rw g at h in
+          absurd (true-false (sym (is-same (f k) (f k) refl) ∙ w))
+
+-- so for n of one type
+module _ (a : Ty) {n : ℕ} where
+  pub array-all : {t : Ty} {k : ℕ} → Agrees n (λ j. a) t k → 1 ≤ n → n ≤ k → true ≡ same t (arrayType a n)
+  array-all {t} g h l = sym (agrees-all (replicate n a) (length-replicate n a) (λ j o. getD-replicate n j a one o) t g h l)
+
+  pub array-not : (t : Ty) (k : ℕ) → k < n → isAt (placeOf products n k t) a ≡ false → false ≡ same t (arrayType a n)
+  array-not t k o h = sym (agrees-not (replicate n a) {f = λ j. a} (length-replicate n a) (λ j l. getD-replicate n j a one l) t k o h)
+
+-- the test f passes at each number below k, and at k; it fails at one
+pub below-next : (f : ℕ → Bool) (k : ℕ) → below f k ≡ true → f k ≡ true → below f (k + 1) ≡ true
+below-next f k h e = let q : k + 1 ≡ suc k = omega arith in rw (q, e) h
+
+pub below-not : (f : ℕ → Bool) (n k : ℕ) → k < n → f k ≡ false → below f n ≡ false
+below-not f zero k o e = absurd (omega arith)
+below-not f (suc n) k o e = by-lt k n (λ l. both-false (f n) (below f n) (below-not f n k l e)) (λ l. let q : k ≡ n = omega arith in rw (← q, e))
+  where
+    both-false : (a b : Bool) → b ≡ false → both a b ≡ false
+    both-false true b h = h
+    both-false false b h = refl

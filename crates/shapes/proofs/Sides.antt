@@ -1,11 +1,12 @@
 -- A type's record by its mark: its fields, its sides, and what it is the same as.
 -- Assumes nothing.
 use Prim.Native.Nat.{ℕ, zero, suc, _<_}
-use mathlib.Core.Bool.{Bool, true, false}
+use mathlib.Core.Bool.{Bool, true, false, not}
 use mathlib.Core.List.{List, [], _∷_}
 use mathlib.Core.Option.{some, none}
 use mathlib.Core.Path.{_≡_, refl, sym, ap, _∙_}
 use native.Mathlib.Omega.{arith}
+use borrow.Author.Tests.{not-true, not-false}
 use lib.Dec.{T, eqb, lt→ltb}
 use Rattle.laws.specs.Table.{pick, both, among, _also_, every}
 use Rattle.array.specs.Path.{Side, onLeft, onRight}
@@ -57,6 +58,13 @@ unit-same one = refl
 unit-same (sum a b) = refl
 unit-same (product a b) = refl
 
+-- a test of two, after a look at the first: it fails, or it is the second
+pub first-fails : {r u w : Bool} (v : Bool) → w ≡ u → r ≡ both u v → not w ≡ true → r ≡ false
+first-fails {w = w} v l e h = rw (e, ← l, not-true w h)
+
+pub first-holds : {r u w : Bool} (v : Bool) → w ≡ u → r ≡ both u v → not w ≡ false → r ≡ v
+first-holds {w = w} v l e h = rw (e, ← l, not-false w h)
+
 -- what holds of both sorts' marks holds of a sort's
 by-sort : (P : ℕ → Type 0) → P TS → P TP → {m : ℕ} → T (isSort m) → P m
 by-sort P s p {m} t = every (TS ∷ TP ∷ []) P (s also p also tt) m t
@@ -87,13 +95,14 @@ module _ {b i : List ℕ} {t : ℕ} (s : Stands b i t TYPE) where
     pub same-not : {m : ℕ} (u : Ty) → markBy u ≡ m → (x ≡ m → ⊥) → same (typeOf b i t) u ≡ false
     same-not u q h = unlike (typeOf b i t) u (λ z. h (e ∙ mark-by ∙ z ∙ q))
 
-    pub same-sum : x ≡ TS → (c d : Ty) → same (typeOf b i t) (sum c d) ≡ both (same (typeOf b i (field b i t 0)) c) (same (typeOf b i (field b i t 1)) d)
-    unfolding same
-    same-sum q c d = rw (sum-tree (sym e ∙ q))
+    module _ {y z : ℕ} (l : y ≡ field b i t 0) (r : z ≡ field b i t 1) (c d : Ty) where
+      pub same-sum : x ≡ TS → same (typeOf b i t) (sum c d) ≡ both (same (typeOf b i y) c) (same (typeOf b i z) d)
+      unfolding same
+      same-sum q = rw (sum-tree (sym e ∙ q), l, r)
 
-    pub same-product : x ≡ TP → (c d : Ty) → same (typeOf b i t) (product c d) ≡ both (same (typeOf b i (field b i t 0)) c) (same (typeOf b i (field b i t 1)) d)
-    unfolding same
-    same-product q c d = rw (product-tree (sym e ∙ q))
+      pub same-product : x ≡ TP → same (typeOf b i t) (product c d) ≡ both (same (typeOf b i y) c) (same (typeOf b i z) d)
+      unfolding same
+      same-product q = rw (product-tree (sym e ∙ q), l, r)
 
     -- its two fields, where it is a sum or a product, lie in the book and name types, which are its sides
     module _ {m : ℕ} (z : T (isSort m)) (q : x ≡ m) where
