@@ -22,9 +22,9 @@ use Rattle.book.proofs.Standing.{stands-mark, stands-tree, head-lies, head-stan
 use Rattle.parts.specs.Parts.{Spanned, spanAt}
 use Rattle.parts.specs.declared.view.Span.{Span}
 use Rattle.shapes.specs.Shapes.{typeIs, types, endType, rowType, listType, sums, isThere, isAt, placeOf, elementOf, hasPlaces, allAre, isListOf, sideOf, whole}
-use Rattle.shapes.specs.Views.{Bound, sideIs}
+use Rattle.shapes.specs.Views.{Bound, Gives, sideIs}
 use Rattle.shapes.specs.Wholes.{Row, Typed, typesAt}
-use Rattle.shapes.proofs.Same.{one-test}
+use Rattle.shapes.proofs.Same.{one-test, types-same, gives-at}
 use Rattle.shapes.proofs.Declared.{expr-declares}
 use Rattle.shapes.proofs.Walks.{Tests}
 use Rattle.shapes.proofs.Rows.{types-at, arms-at}
@@ -54,6 +54,17 @@ Is b i p u = Stands b i p TYPE × (typeOf b i p ≡ u)
 -- the declared type of the expression that field k names is that of record p
 abbrev pub Part : List ℕ → List ℕ → ℕ → ℕ → ℕ → Type 0
 Part b i r k p = Is b i p (typeIs (exprOf b i (field b i r k)))
+
+-- a test of its number against a type's; against what may be none
+module _ {b i : List ℕ} {p a : ℕ} {u : Ty} where
+  pub is-test : Is b i p u → Stands b i a TYPE → eqb p a ≡ same u (typeOf b i a)
+  is-test e s = rw (← e .1) (types-same (e .0) s)
+
+  pub test-is : Stands b i a TYPE → Is b i p u → eqb a p ≡ same (typeOf b i a) u
+  test-is s e = rw (← e .1) (types-same s (e .0))
+
+  pub given-is : {o : Option Ty} → Gives b i o a → Is b i p u → eqb a p ≡ isAt o u
+  given-is g e = rw (← e .1) (gives-at g (e .0))
 
 -- what may be no type: whether it is there, and is u
 pub there-none : {o : Option Ty} → o ≡ none → isThere o ≡ false

@@ -279,4 +279,4 @@ module _ {b i : List ℕ} {t bits m : ℕ} (s : Stands b i t TYPE) (u : bits ≡
   result-not h = rw result-product (sym (same-not s e (product two (wordType (bits - 1))) refl h))
 
   pub result-is : {x y : ℕ} → m ≡ TP → x ≡ field b i t 0 → y ≡ field b i t 1 → Tests (same (typeOf b i t) (resultType bits)) (same (typeOf b i x) two ∷ same (typeOf b i y) (wordType (bits - 1)) ∷ [])
-  result-is q o w = record { is = rw (result-product, o, w) (same-product s e q two (wordType (bits - 1))) }
+  result-is q o w = record { is = rw result-product (same-product s e o w two (wordType (bits - 1)) q) }

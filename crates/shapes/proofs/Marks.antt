@@ -111,4 +111,4 @@ module _ {b i : List ℕ} {r t : ℕ} (v : Stands b i r VALUE) (e : mark b i r �
   pair-not o h = sym (pair-whole ∙ same-not pair-type o (product (declaredOf b i (field b i r 1)) (declaredOf b i (field b i r 2))) refl h)
 
   pub pair-is : {m x y : ℕ} → m ≡ mark b i t → m ≡ TP → x ≡ field b i t 0 → y ≡ field b i t 1 → Tests (valueAgrees b i r) (same (typeOf b i x) (declaredOf b i (field b i r 1)) ∷ same (typeOf b i y) (declaredOf b i (field b i r 2)) ∷ [])
-  pair-is o q u w = record { is = pair-whole ∙ rw (u, w) (same-product pair-type o q (declaredOf b i (field b i r 1)) (declaredOf b i (field b i r 2))) }
+  pair-is o q u w = record { is = pair-whole ∙ same-product pair-type o u w (declaredOf b i (field b i r 1)) (declaredOf b i (field b i r 2)) q }

@@ -4,8 +4,8 @@ use Prim.Native.Nat.{_-_}
 use native.Mathlib.Omega.{arith}
 use Rattle.simplicity.specs.Types.{same}
 use Rattle.book.specs.Tree.{typeOf}
+use Rattle.shapes.proofs.Constructs.{is-test}
 use Rattle.shapes.proofs.Rows.{all-walk, partAt, row-near}
-use Rattle.shapes.proofs.Same.{types-same}
 use Rattle.shapes.proofs.Walks.{Left, differ, equal, left-end, left-on, left-start, left-stop}
 use Rattle.shapes.specs.Shapes.{allAre}
 use Rattle.shapes.specs.Wholes.{typesAt}
@@ -23,8 +23,8 @@ are-all-spec =
     (λ c. omega (arith, row-near (c .before .before .before .before .before .pre .1) (c .before .loop-test .taken)))
     (λ c. omega (arith, c .before .before .before .before .before .before .pre .1 .low, row-near (c .before .before .before .before .before .before .pre .1) (c .before .before .loop-test .taken)))
     (λ c κs. (c .before .before .before .before .before .before .pre .1 .each) _ (c .before .before .loop-test .taken))
-    (λ c. left-stop (c .before .before .before .before .before .loop .inv) (c .before .before .before .before .loop-test .taken) (rw (← c .before .part-type .ensures .1) (differ (types-same (c .before .part-type .ensures .0) (c .before .before .before .before .before .before .before .before .pre .0)) (c .if1 .taken))))
+    (λ c. left-stop (c .before .before .before .before .before .loop .inv) (c .before .before .before .before .loop-test .taken) (differ (is-test (c .before .part-type .ensures) (c .before .before .before .before .before .before .before .before .pre .0)) (c .if1 .taken)))
     (λ c. search needs)
     (λ c. search needs)
-    (λ c. left-on (c .before .before .before .before .before .loop .inv) (c .before .before .before .before .loop-test .taken) (rw (← c .before .part-type .ensures .1) (equal (types-same (c .before .part-type .ensures .0) (c .before .before .before .before .before .before .before .before .pre .0)) (c .if1 .left))))
+    (λ c. left-on (c .before .before .before .before .before .loop .inv) (c .before .before .before .before .loop-test .taken) (equal (is-test (c .before .part-type .ensures) (c .before .before .before .before .before .before .before .before .pre .0)) (c .if1 .left)))
     (λ c. left-end (c .before .loop .inv) (c .loop-test .left)))

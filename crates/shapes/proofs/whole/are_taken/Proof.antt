@@ -5,9 +5,9 @@ use native.Mathlib.Omega.{arith}
 use Rattle.simplicity.specs.Types.{same}
 use Rattle.book.specs.Index.{field}
 use Rattle.book.specs.Tree.{exprOf, typeOf}
+use Rattle.shapes.proofs.Constructs.{is-test}
 use Rattle.shapes.proofs.Functions.{argument, param-at, param-lies}
 use Rattle.shapes.proofs.Rows.{taken-walk}
-use Rattle.shapes.proofs.Same.{types-same}
 use Rattle.shapes.proofs.Walks.{Left, differ, equal, left-end, left-on, left-start, left-stop}
 use Rattle.shapes.specs.Shapes.{sameAll, typeIs}
 use Rattle.shapes.specs.Wholes.{takesAt, typesAt}
@@ -27,8 +27,8 @@ are-taken-spec =
     (λ c. omega (arith, c .before .before .before .before .before .pre .0 .few))
     (λ c. omega (arith, c .before .before .before .before .before .pre .0 .few))
     (λ c κs. param-lies (c .before .before .before .before .before .pre .1 .0) _ (c .before .before .before .before .before .pre .1 .1) (c .before .loop-test .taken))
-    (λ c. left-stop (c .before .before .before .before .loop .inv) (c .before .before .before .loop-test .taken) (rw (← c .before .before .part-type .ensures .1, ← c .before .field-at .ensures) (differ (types-same (c .before .before .part-type .ensures .0) (param-at (c .before .before .before .before .before .before .before .pre .1 .0) _ (c .before .before .before .before .before .before .before .pre .1 .1) (c .before .before .before .loop-test .taken) (c .before .field-at .ensures))) (c .if1 .taken))))
+    (λ c. left-stop (c .before .before .before .before .loop .inv) (c .before .before .before .loop-test .taken) (rw (← c .before .field-at .ensures) (differ (is-test (c .before .before .part-type .ensures) (param-at (c .before .before .before .before .before .before .before .pre .1 .0) _ (c .before .before .before .before .before .before .before .pre .1 .1) (c .before .before .before .loop-test .taken) (c .before .field-at .ensures))) (c .if1 .taken))))
     (λ c. search needs)
     (λ c. search needs)
-    (λ c. left-on (c .before .before .before .before .loop .inv) (c .before .before .before .loop-test .taken) (rw (← c .before .before .part-type .ensures .1, ← c .before .field-at .ensures) (equal (types-same (c .before .before .part-type .ensures .0) (param-at (c .before .before .before .before .before .before .before .pre .1 .0) _ (c .before .before .before .before .before .before .before .pre .1 .1) (c .before .before .before .loop-test .taken) (c .before .field-at .ensures))) (c .if1 .left))))
+    (λ c. left-on (c .before .before .before .before .loop .inv) (c .before .before .before .loop-test .taken) (rw (← c .before .field-at .ensures) (equal (is-test (c .before .before .part-type .ensures) (param-at (c .before .before .before .before .before .before .before .pre .1 .0) _ (c .before .before .before .before .before .before .before .pre .1 .1) (c .before .before .before .loop-test .taken) (c .before .field-at .ensures))) (c .if1 .left))))
     (λ c. left-end (c .before .loop .inv) (c .loop-test .left)))

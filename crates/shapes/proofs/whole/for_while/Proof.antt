@@ -2,7 +2,7 @@
 -- Assumes nothing.
 use mathlib.Core.Path.{_∙_, sym}
 use native.Mathlib.Omega.{arith}
-use Rattle.shapes.proofs.Constructs.{names, typed-lies, typed-stands}
+use Rattle.shapes.proofs.Constructs.{is-test, names, typed-lies, typed-stands}
 use Rattle.shapes.proofs.Functions.{count-lies, loop-few, loop-function, loop-is, loop-power, param-at, param-lies, result-lies, result-stands}
 use Rattle.shapes.proofs.Same.{gives-at, types-same}
 use Rattle.shapes.proofs.Walks.{differ, equal, fails, no, passes, tells, yes}
@@ -25,10 +25,10 @@ for-while-spec =
     (λ c κs. (param-at (loop-function (c .before .before .before .before .before .before .field-at .ensures) (c .before .before .before .before .before .before .before .before .before .pre)) 2 (sym (c .before .before .before .before .if1 .left) ∙ c .before .before .before .before .before .field-at2 .ensures) (omega arith) (c .field-at6 .ensures), loop-power (c .before .before .before .before .before .before .field-at .ensures) (c .before .before .before .before .before .before .before .before .before .pre) (c .before .before .before .field-at3 .ensures)))
     (λ c. fails (loop-is (c .before .before .before .before .before .before .before .before .field-at .ensures) (c .before .before .before .before .before .before .before .before .before .before .before .pre) (sym (c .before .before .before .before .before .before .before .field-at2 .ensures) ∙ c .before .before .before .before .before .before .if1 .left) (c .before .before .before .before .before .field-at3 .ensures) (c .before .before .before .before .field-at4 .ensures) (c .before .before .before .field-at5 .ensures) (c .before .before .field-at6 .ensures)) (no (c .before .is-word .ensures) (c .if2 .taken)))
     (λ c κs. (typed-lies (c .before .before .before .before .before .before .before .before .before .before .before .pre) 3 tt, names (c .before .before .before .before .before .before .before .before .before .before .before .pre) 3 tt tt))
-    (λ c. fails (passes (loop-is (c .before .before .before .before .before .before .before .before .before .before .field-at .ensures) (c .before .before .before .before .before .before .before .before .before .before .before .before .before .pre) (sym (c .before .before .before .before .before .before .before .before .before .field-at2 .ensures) ∙ c .before .before .before .before .before .before .before .before .if1 .left) (c .before .before .before .before .before .before .before .field-at3 .ensures) (c .before .before .before .before .before .before .field-at4 .ensures) (c .before .before .before .before .before .field-at5 .ensures) (c .before .before .before .before .field-at6 .ensures)) (yes (c .before .before .before .is-word .ensures) (c .before .before .if2 .left))) (rw (← c .before .part-type .ensures .1) (differ (types-same (c .before .part-type .ensures .0) (param-at (loop-function (c .before .before .before .before .before .before .before .before .before .before .field-at .ensures) (c .before .before .before .before .before .before .before .before .before .before .before .before .before .pre)) 0 (sym (c .before .before .before .before .before .before .before .before .if1 .left) ∙ c .before .before .before .before .before .before .before .before .before .field-at2 .ensures) (omega arith) (c .before .before .before .before .before .before .field-at4 .ensures))) (c .if3 .taken))))
+    (λ c. fails (passes (loop-is (c .before .before .before .before .before .before .before .before .before .before .field-at .ensures) (c .before .before .before .before .before .before .before .before .before .before .before .before .before .pre) (sym (c .before .before .before .before .before .before .before .before .before .field-at2 .ensures) ∙ c .before .before .before .before .before .before .before .before .if1 .left) (c .before .before .before .before .before .before .before .field-at3 .ensures) (c .before .before .before .before .before .before .field-at4 .ensures) (c .before .before .before .before .before .field-at5 .ensures) (c .before .before .before .before .field-at6 .ensures)) (yes (c .before .before .before .is-word .ensures) (c .before .before .if2 .left))) (differ (is-test (c .before .part-type .ensures) (param-at (loop-function (c .before .before .before .before .before .before .before .before .before .before .field-at .ensures) (c .before .before .before .before .before .before .before .before .before .before .before .before .before .pre)) 0 (sym (c .before .before .before .before .before .before .before .before .if1 .left) ∙ c .before .before .before .before .before .before .before .before .before .field-at2 .ensures) (omega arith) (c .before .before .before .before .before .before .field-at4 .ensures))) (c .if3 .taken)))
     (λ c κs. (typed-lies (c .before .before .before .before .before .before .before .before .before .before .before .before .before .pre) 4 tt, names (c .before .before .before .before .before .before .before .before .before .before .before .before .before .pre) 4 tt tt))
-    (λ c. fails (passes (passes (loop-is (c .before .before .before .before .before .before .before .before .before .before .before .before .field-at .ensures) (c .before .before .before .before .before .before .before .before .before .before .before .before .before .before .before .pre) (sym (c .before .before .before .before .before .before .before .before .before .before .before .field-at2 .ensures) ∙ c .before .before .before .before .before .before .before .before .before .before .if1 .left) (c .before .before .before .before .before .before .before .before .before .field-at3 .ensures) (c .before .before .before .before .before .before .before .before .field-at4 .ensures) (c .before .before .before .before .before .before .before .field-at5 .ensures) (c .before .before .before .before .before .before .field-at6 .ensures)) (yes (c .before .before .before .before .before .is-word .ensures) (c .before .before .before .before .if2 .left))) (rw (← c .before .before .before .part-type .ensures .1) (equal (types-same (c .before .before .before .part-type .ensures .0) (param-at (loop-function (c .before .before .before .before .before .before .before .before .before .before .before .before .field-at .ensures) (c .before .before .before .before .before .before .before .before .before .before .before .before .before .before .before .pre)) 0 (sym (c .before .before .before .before .before .before .before .before .before .before .if1 .left) ∙ c .before .before .before .before .before .before .before .before .before .before .before .field-at2 .ensures) (omega arith) (c .before .before .before .before .before .before .before .before .field-at4 .ensures))) (c .before .before .if3 .left)))) (rw (← c .before .part-type2 .ensures .1) (differ (types-same (c .before .part-type2 .ensures .0) (param-at (loop-function (c .before .before .before .before .before .before .before .before .before .before .before .before .field-at .ensures) (c .before .before .before .before .before .before .before .before .before .before .before .before .before .before .before .pre)) 1 (sym (c .before .before .before .before .before .before .before .before .before .before .if1 .left) ∙ c .before .before .before .before .before .before .before .before .before .before .before .field-at2 .ensures) (omega arith) (c .before .before .before .before .before .before .before .field-at5 .ensures))) (c .if4 .taken))))
+    (λ c. fails (passes (passes (loop-is (c .before .before .before .before .before .before .before .before .before .before .before .before .field-at .ensures) (c .before .before .before .before .before .before .before .before .before .before .before .before .before .before .before .pre) (sym (c .before .before .before .before .before .before .before .before .before .before .before .field-at2 .ensures) ∙ c .before .before .before .before .before .before .before .before .before .before .if1 .left) (c .before .before .before .before .before .before .before .before .before .field-at3 .ensures) (c .before .before .before .before .before .before .before .before .field-at4 .ensures) (c .before .before .before .before .before .before .before .field-at5 .ensures) (c .before .before .before .before .before .before .field-at6 .ensures)) (yes (c .before .before .before .before .before .is-word .ensures) (c .before .before .before .before .if2 .left))) (equal (is-test (c .before .before .before .part-type .ensures) (param-at (loop-function (c .before .before .before .before .before .before .before .before .before .before .before .before .field-at .ensures) (c .before .before .before .before .before .before .before .before .before .before .before .before .before .before .before .pre)) 0 (sym (c .before .before .before .before .before .before .before .before .before .before .if1 .left) ∙ c .before .before .before .before .before .before .before .before .before .before .before .field-at2 .ensures) (omega arith) (c .before .before .before .before .before .before .before .before .field-at4 .ensures))) (c .before .before .if3 .left))) (differ (is-test (c .before .part-type2 .ensures) (param-at (loop-function (c .before .before .before .before .before .before .before .before .before .before .before .before .field-at .ensures) (c .before .before .before .before .before .before .before .before .before .before .before .before .before .before .before .pre)) 1 (sym (c .before .before .before .before .before .before .before .before .before .before .if1 .left) ∙ c .before .before .before .before .before .before .before .before .before .before .before .field-at2 .ensures) (omega arith) (c .before .before .before .before .before .before .before .field-at5 .ensures))) (c .if4 .taken)))
     (λ c κs. (typed-stands (c .before .before .before .before .before .before .before .before .before .before .before .before .before .before .before .pre), (tt, omega arith)))
-    (λ c. fails (passes (passes (passes (loop-is (c .before .before .before .before .before .before .before .before .before .before .before .before .before .before .field-at .ensures) (c .before .before .before .before .before .before .before .before .before .before .before .before .before .before .before .before .before .pre) (sym (c .before .before .before .before .before .before .before .before .before .before .before .before .before .field-at2 .ensures) ∙ c .before .before .before .before .before .before .before .before .before .before .before .before .if1 .left) (c .before .before .before .before .before .before .before .before .before .before .before .field-at3 .ensures) (c .before .before .before .before .before .before .before .before .before .before .field-at4 .ensures) (c .before .before .before .before .before .before .before .before .before .field-at5 .ensures) (c .before .before .before .before .before .before .before .before .field-at6 .ensures)) (yes (c .before .before .before .before .before .before .before .is-word .ensures) (c .before .before .before .before .before .before .if2 .left))) (rw (← c .before .before .before .before .before .part-type .ensures .1) (equal (types-same (c .before .before .before .before .before .part-type .ensures .0) (param-at (loop-function (c .before .before .before .before .before .before .before .before .before .before .before .before .before .before .field-at .ensures) (c .before .before .before .before .before .before .before .before .before .before .before .before .before .before .before .before .before .pre)) 0 (sym (c .before .before .before .before .before .before .before .before .before .before .before .before .if1 .left) ∙ c .before .before .before .before .before .before .before .before .before .before .before .before .before .field-at2 .ensures) (omega arith) (c .before .before .before .before .before .before .before .before .before .before .field-at4 .ensures))) (c .before .before .before .before .if3 .left)))) (rw (← c .before .before .before .part-type2 .ensures .1) (equal (types-same (c .before .before .before .part-type2 .ensures .0) (param-at (loop-function (c .before .before .before .before .before .before .before .before .before .before .before .before .before .before .field-at .ensures) (c .before .before .before .before .before .before .before .before .before .before .before .before .before .before .before .before .before .pre)) 1 (sym (c .before .before .before .before .before .before .before .before .before .before .before .before .if1 .left) ∙ c .before .before .before .before .before .before .before .before .before .before .before .before .before .field-at2 .ensures) (omega arith) (c .before .before .before .before .before .before .before .before .before .field-at5 .ensures))) (c .before .before .if4 .left)))) (differ (gives-at (c .before .side .ensures) (param-at (loop-function (c .before .before .before .before .before .before .before .before .before .before .before .before .before .before .field-at .ensures) (c .before .before .before .before .before .before .before .before .before .before .before .before .before .before .before .before .before .pre)) 0 (sym (c .before .before .before .before .before .before .before .before .before .before .before .before .if1 .left) ∙ c .before .before .before .before .before .before .before .before .before .before .before .before .before .field-at2 .ensures) (omega arith) (c .before .before .before .before .before .before .before .before .before .before .field-at4 .ensures))) (c .if5 .taken)))
+    (λ c. fails (passes (passes (passes (loop-is (c .before .before .before .before .before .before .before .before .before .before .before .before .before .before .field-at .ensures) (c .before .before .before .before .before .before .before .before .before .before .before .before .before .before .before .before .before .pre) (sym (c .before .before .before .before .before .before .before .before .before .before .before .before .before .field-at2 .ensures) ∙ c .before .before .before .before .before .before .before .before .before .before .before .before .if1 .left) (c .before .before .before .before .before .before .before .before .before .before .before .field-at3 .ensures) (c .before .before .before .before .before .before .before .before .before .before .field-at4 .ensures) (c .before .before .before .before .before .before .before .before .before .field-at5 .ensures) (c .before .before .before .before .before .before .before .before .field-at6 .ensures)) (yes (c .before .before .before .before .before .before .before .is-word .ensures) (c .before .before .before .before .before .before .if2 .left))) (equal (is-test (c .before .before .before .before .before .part-type .ensures) (param-at (loop-function (c .before .before .before .before .before .before .before .before .before .before .before .before .before .before .field-at .ensures) (c .before .before .before .before .before .before .before .before .before .before .before .before .before .before .before .before .before .pre)) 0 (sym (c .before .before .before .before .before .before .before .before .before .before .before .before .if1 .left) ∙ c .before .before .before .before .before .before .before .before .before .before .before .before .before .field-at2 .ensures) (omega arith) (c .before .before .before .before .before .before .before .before .before .before .field-at4 .ensures))) (c .before .before .before .before .if3 .left))) (equal (is-test (c .before .before .before .part-type2 .ensures) (param-at (loop-function (c .before .before .before .before .before .before .before .before .before .before .before .before .before .before .field-at .ensures) (c .before .before .before .before .before .before .before .before .before .before .before .before .before .before .before .before .before .pre)) 1 (sym (c .before .before .before .before .before .before .before .before .before .before .before .before .if1 .left) ∙ c .before .before .before .before .before .before .before .before .before .before .before .before .before .field-at2 .ensures) (omega arith) (c .before .before .before .before .before .before .before .before .before .field-at5 .ensures))) (c .before .before .if4 .left))) (differ (gives-at (c .before .side .ensures) (param-at (loop-function (c .before .before .before .before .before .before .before .before .before .before .before .before .before .before .field-at .ensures) (c .before .before .before .before .before .before .before .before .before .before .before .before .before .before .before .before .before .pre)) 0 (sym (c .before .before .before .before .before .before .before .before .before .before .before .before .if1 .left) ∙ c .before .before .before .before .before .before .before .before .before .before .before .before .before .field-at2 .ensures) (omega arith) (c .before .before .before .before .before .before .before .before .before .before .field-at4 .ensures))) (c .if5 .taken)))
     (λ c κs. result-lies (loop-function (c .before .before .before .before .before .before .before .before .before .before .before .before .before .before .field-at .ensures) (c .before .before .before .before .before .before .before .before .before .before .before .before .before .before .before .before .before .pre)))
-    (λ c. tells (passes (passes (passes (passes (loop-is (c .before .before .before .before .before .before .before .before .before .before .before .before .before .before .before .field-at .ensures) (c .before .before .before .before .before .before .before .before .before .before .before .before .before .before .before .before .before .before .pre) (sym (c .before .before .before .before .before .before .before .before .before .before .before .before .before .before .field-at2 .ensures) ∙ c .before .before .before .before .before .before .before .before .before .before .before .before .before .if1 .left) (c .before .before .before .before .before .before .before .before .before .before .before .before .field-at3 .ensures) (c .before .before .before .before .before .before .before .before .before .before .before .field-at4 .ensures) (c .before .before .before .before .before .before .before .before .before .before .field-at5 .ensures) (c .before .before .before .before .before .before .before .before .before .field-at6 .ensures)) (yes (c .before .before .before .before .before .before .before .before .is-word .ensures) (c .before .before .before .before .before .before .before .if2 .left))) (rw (← c .before .before .before .before .before .before .part-type .ensures .1) (equal (types-same (c .before .before .before .before .before .before .part-type .ensures .0) (param-at (loop-function (c .before .before .before .before .before .before .before .before .before .before .before .before .before .before .before .field-at .ensures) (c .before .before .before .before .before .before .before .before .before .before .before .before .before .before .before .before .before .before .pre)) 0 (sym (c .before .before .before .before .before .before .before .before .before .before .before .before .before .if1 .left) ∙ c .before .before .before .before .before .before .before .before .before .before .before .before .before .before .field-at2 .ensures) (omega arith) (c .before .before .before .before .before .before .before .before .before .before .before .field-at4 .ensures))) (c .before .before .before .before .before .if3 .left)))) (rw (← c .before .before .before .before .part-type2 .ensures .1) (equal (types-same (c .before .before .before .before .part-type2 .ensures .0) (param-at (loop-function (c .before .before .before .before .before .before .before .before .before .before .before .before .before .before .before .field-at .ensures) (c .before .before .before .before .before .before .before .before .before .before .before .before .before .before .before .before .before .before .pre)) 1 (sym (c .before .before .before .before .before .before .before .before .before .before .before .before .before .if1 .left) ∙ c .before .before .before .before .before .before .before .before .before .before .before .before .before .before .field-at2 .ensures) (omega arith) (c .before .before .before .before .before .before .before .before .before .before .field-at5 .ensures))) (c .before .before .before .if4 .left)))) (equal (gives-at (c .before .before .side .ensures) (param-at (loop-function (c .before .before .before .before .before .before .before .before .before .before .before .before .before .before .before .field-at .ensures) (c .before .before .before .before .before .before .before .before .before .before .before .before .before .before .before .before .before .before .pre)) 0 (sym (c .before .before .before .before .before .before .before .before .before .before .before .before .before .if1 .left) ∙ c .before .before .before .before .before .before .before .before .before .before .before .before .before .before .field-at2 .ensures) (omega arith) (c .before .before .before .before .before .before .before .before .before .before .before .field-at4 .ensures))) (c .before .if5 .left))) (rw (c .field-at7 .ensures) (types-same (result-stands (loop-function (c .before .before .before .before .before .before .before .before .before .before .before .before .before .before .before .field-at .ensures) (c .before .before .before .before .before .before .before .before .before .before .before .before .before .before .before .before .before .before .pre))) (typed-stands (c .before .before .before .before .before .before .before .before .before .before .before .before .before .before .before .before .before .before .pre))))))
+    (λ c. tells (passes (passes (passes (passes (loop-is (c .before .before .before .before .before .before .before .before .before .before .before .before .before .before .before .field-at .ensures) (c .before .before .before .before .before .before .before .before .before .before .before .before .before .before .before .before .before .before .pre) (sym (c .before .before .before .before .before .before .before .before .before .before .before .before .before .before .field-at2 .ensures) ∙ c .before .before .before .before .before .before .before .before .before .before .before .before .before .if1 .left) (c .before .before .before .before .before .before .before .before .before .before .before .before .field-at3 .ensures) (c .before .before .before .before .before .before .before .before .before .before .before .field-at4 .ensures) (c .before .before .before .before .before .before .before .before .before .before .field-at5 .ensures) (c .before .before .before .before .before .before .before .before .before .field-at6 .ensures)) (yes (c .before .before .before .before .before .before .before .before .is-word .ensures) (c .before .before .before .before .before .before .before .if2 .left))) (equal (is-test (c .before .before .before .before .before .before .part-type .ensures) (param-at (loop-function (c .before .before .before .before .before .before .before .before .before .before .before .before .before .before .before .field-at .ensures) (c .before .before .before .before .before .before .before .before .before .before .before .before .before .before .before .before .before .before .pre)) 0 (sym (c .before .before .before .before .before .before .before .before .before .before .before .before .before .if1 .left) ∙ c .before .before .before .before .before .before .before .before .before .before .before .before .before .before .field-at2 .ensures) (omega arith) (c .before .before .before .before .before .before .before .before .before .before .before .field-at4 .ensures))) (c .before .before .before .before .before .if3 .left))) (equal (is-test (c .before .before .before .before .part-type2 .ensures) (param-at (loop-function (c .before .before .before .before .before .before .before .before .before .before .before .before .before .before .before .field-at .ensures) (c .before .before .before .before .before .before .before .before .before .before .before .before .before .before .before .before .before .before .pre)) 1 (sym (c .before .before .before .before .before .before .before .before .before .before .before .before .before .if1 .left) ∙ c .before .before .before .before .before .before .before .before .before .before .before .before .before .before .field-at2 .ensures) (omega arith) (c .before .before .before .before .before .before .before .before .before .before .field-at5 .ensures))) (c .before .before .before .if4 .left))) (equal (gives-at (c .before .before .side .ensures) (param-at (loop-function (c .before .before .before .before .before .before .before .before .before .before .before .before .before .before .before .field-at .ensures) (c .before .before .before .before .before .before .before .before .before .before .before .before .before .before .before .before .before .before .pre)) 0 (sym (c .before .before .before .before .before .before .before .before .before .before .before .before .before .if1 .left) ∙ c .before .before .before .before .before .before .before .before .before .before .before .before .before .before .field-at2 .ensures) (omega arith) (c .before .before .before .before .before .before .before .before .before .before .before .field-at4 .ensures))) (c .before .if5 .left))) (rw (c .field-at7 .ensures) (types-same (result-stands (loop-function (c .before .before .before .before .before .before .before .before .before .before .before .before .before .before .before .field-at .ensures) (c .before .before .before .before .before .before .before .before .before .before .before .before .before .before .before .before .before .before .pre))) (typed-stands (c .before .before .before .before .before .before .before .before .before .before .before .before .before .before .before .before .before .before .pre))))))

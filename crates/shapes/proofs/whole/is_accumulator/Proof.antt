@@ -1,5 +1,6 @@
 -- `is_accumulator` meets its contract: the function's second parameter is where the fold starts from and what both give.
 -- Assumes nothing.
+use Rattle.shapes.proofs.Constructs.{is-test}
 use Rattle.shapes.proofs.Functions.{accumulates-is, result-lies, result-stands, second-lies, second-stands}
 use Rattle.shapes.proofs.Same.{types-same}
 use Rattle.shapes.proofs.Walks.{differ, equal, fails, passes, tells}
@@ -12,7 +13,7 @@ is-accumulator-spec =
     (tie.spec
     (λ c κs. second-lies (c .before .before .pre))
     (λ c κs. (c .before .before .before .pre .lies, c .before .before .before .pre .start))
-    (λ c. fails (accumulates-is (c .before .before .before .before .before .pre) (c .before .before .field-at .ensures)) (rw (← c .before .part-type .ensures .1) (differ (types-same (c .before .part-type .ensures .0) (second-stands (c .before .before .before .before .before .pre) (c .before .before .field-at .ensures))) (c .if1 .taken))))
-    (λ c. fails (passes (accumulates-is (c .before .before .before .before .before .before .pre) (c .before .before .before .field-at .ensures)) (rw (← c .before .before .part-type .ensures .1) (equal (types-same (c .before .before .part-type .ensures .0) (second-stands (c .before .before .before .before .before .before .pre) (c .before .before .before .field-at .ensures))) (c .before .if1 .left)))) (differ (types-same (c .before .before .before .before .before .before .pre .type) (second-stands (c .before .before .before .before .before .before .pre) (c .before .before .before .field-at .ensures))) (c .if2 .taken)))
+    (λ c. fails (accumulates-is (c .before .before .before .before .before .pre) (c .before .before .field-at .ensures)) (differ (is-test (c .before .part-type .ensures) (second-stands (c .before .before .before .before .before .pre) (c .before .before .field-at .ensures))) (c .if1 .taken)))
+    (λ c. fails (passes (accumulates-is (c .before .before .before .before .before .before .pre) (c .before .before .before .field-at .ensures)) (equal (is-test (c .before .before .part-type .ensures) (second-stands (c .before .before .before .before .before .before .pre) (c .before .before .before .field-at .ensures))) (c .before .if1 .left))) (differ (types-same (c .before .before .before .before .before .before .pre .type) (second-stands (c .before .before .before .before .before .before .pre) (c .before .before .before .field-at .ensures))) (c .if2 .taken)))
     (λ c κs. result-lies (c .before .before .before .before .before .before .pre .function))
-    (λ c. tells (passes (passes (accumulates-is (c .before .before .before .before .before .before .before .pre) (c .before .before .before .before .field-at .ensures)) (rw (← c .before .before .before .part-type .ensures .1) (equal (types-same (c .before .before .before .part-type .ensures .0) (second-stands (c .before .before .before .before .before .before .before .pre) (c .before .before .before .before .field-at .ensures))) (c .before .before .if1 .left)))) (equal (types-same (c .before .before .before .before .before .before .before .pre .type) (second-stands (c .before .before .before .before .before .before .before .pre) (c .before .before .before .before .field-at .ensures))) (c .before .if2 .left))) (rw (c .field-at2 .ensures) (types-same (result-stands (c .before .before .before .before .before .before .before .pre .function)) (second-stands (c .before .before .before .before .before .before .before .pre) (c .before .before .before .before .field-at .ensures))))))
+    (λ c. tells (passes (passes (accumulates-is (c .before .before .before .before .before .before .before .pre) (c .before .before .before .before .field-at .ensures)) (equal (is-test (c .before .before .before .part-type .ensures) (second-stands (c .before .before .before .before .before .before .before .pre) (c .before .before .before .before .field-at .ensures))) (c .before .before .if1 .left))) (equal (types-same (c .before .before .before .before .before .before .before .pre .type) (second-stands (c .before .before .before .before .before .before .before .pre) (c .before .before .before .before .field-at .ensures))) (c .before .if2 .left))) (rw (c .field-at2 .ensures) (types-same (result-stands (c .before .before .before .before .before .before .before .pre .function)) (second-stands (c .before .before .before .before .before .before .before .pre) (c .before .before .before .before .field-at .ensures))))))

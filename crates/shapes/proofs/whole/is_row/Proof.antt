@@ -5,8 +5,8 @@ use mathlib.Core.Path.{_∙_}
 use native.Mathlib.Omega.{arith}
 use Rattle.simplicity.specs.Types.{same}
 use Rattle.book.specs.Tree.{typeOf}
+use Rattle.shapes.proofs.Constructs.{given-is}
 use Rattle.shapes.proofs.Rows.{placeIs, row-near, row-unit, row-walk}
-use Rattle.shapes.proofs.Same.{gives-at}
 use Rattle.shapes.proofs.Walks.{Left, differ, equal, left-end, left-on, left-start, left-stop}
 use Rattle.shapes.specs.Shapes.{rowType}
 use Rattle.shapes.specs.Wholes.{typesAt}
@@ -29,8 +29,8 @@ is-row-spec =
     (λ c. omega (arith, c .before .before .before .before .before .before .before .before .pre .1 .few))
     (λ c. omega (arith, c .before .before .before .before .before .before .before .before .pre .1 .few, c .before .before .before .loop-test .taken))
     (λ c κs. (c .before .before .before .before .before .before .before .before .pre .0, (tt, (c .before .before .before .loop-test .taken, c .before .before .before .before .before .before .before .before .pre .1 .few))))
-    (λ c. left-stop (c .before .before .before .before .before .before .loop .inv) (c .before .before .before .before .before .loop-test .taken) (rw (← c .before .before .part-type .ensures .1) (differ (gives-at (c .before .place .ensures) (c .before .before .part-type .ensures .0)) (c .if2 .taken))))
+    (λ c. left-stop (c .before .before .before .before .before .before .loop .inv) (c .before .before .before .before .before .loop-test .taken) (differ (given-is (c .before .place .ensures) (c .before .before .part-type .ensures)) (c .if2 .taken)))
     (λ c. search needs)
     (λ c. search needs)
-    (λ c. left-on (c .before .before .before .before .before .before .loop .inv) (c .before .before .before .before .before .loop-test .taken) (rw (← c .before .before .part-type .ensures .1) (equal (gives-at (c .before .place .ensures) (c .before .before .part-type .ensures .0)) (c .if2 .left))))
+    (λ c. left-on (c .before .before .before .before .before .before .loop .inv) (c .before .before .before .before .before .loop-test .taken) (equal (given-is (c .before .place .ensures) (c .before .before .part-type .ensures)) (c .if2 .left)))
     (λ c. left-end (c .before .loop .inv) (c .loop-test .left)))
