@@ -43,7 +43,7 @@ module _ {b i : List ℕ} {f : ℕ} (s : Stands b i f FUNCTION) where
   pub param-lies : {n : ℕ} (k : ℕ) → n ≡ field b i f 1 → k < n → Lies b i f (3 + 2 * k)
   param-lies k e h = each-lies s FN (function-mark s) (3 + 2 * k) k 1 (omega arith) (omega arith) tt
 
-  pub param-stands : {n : ℕ} (k : ℕ) → n ≡ field b i f 1 → k < n → Stands b i (field b i f (3 + 2 * k)) TYPE
+  param-stands : {n : ℕ} (k : ℕ) → n ≡ field b i f 1 → k < n → Stands b i (field b i f (3 + 2 * k)) TYPE
   param-stands k e h = each-stands s FN (function-mark s) (3 + 2 * k) k 1 (omega arith) (omega arith) tt tt
 
   pub param-at : {n x : ℕ} (k : ℕ) → n ≡ field b i f 1 → k < n → x ≡ field b i f (3 + 2 * k) → Stands b i x TYPE
@@ -100,12 +100,12 @@ module _ {b i : List ℕ} {r t : ℕ} where
     unfolding whole asExpr
     call-whole = ap whole (made g) ∙ rw (types-at b i r (field b i r 2) 3, ← z, takes-are call-function, gives-is call-function, ← g .is)
 
-    module _ {n : ℕ} (o : n ≡ field b i r 2) where
-      pub call-few : (field b i f 1 ≡ n → ⊥) → false ≡ whole (exprOf b i r)
-      call-few h = sym (call-whole ∙ rw (same-length _ _ (λ e. h (sym (takes-length b i f (field b i f 1) 2) ∙ sym e ∙ types-length b i r (field b i r 2) 1 3 ∙ sym o))))
+    module _ {n c : ℕ} (o : n ≡ field b i r 2) (w : c ≡ field b i f 1) where
+      pub call-few : (c ≡ n → ⊥) → false ≡ whole (exprOf b i r)
+      call-few h = sym (call-whole ∙ rw (same-length _ _ (λ e. h (w ∙ sym (takes-length b i f (field b i f 1) 2) ∙ sym e ∙ types-length b i r (field b i r 2) 1 3 ∙ sym o))))
 
-      pub call-is : field b i f 1 ≡ n → Tests (whole (exprOf b i r)) (sameAll (typesAt b i r 1 3 n) (takesAt b i f 2 n) ∷ same (typeOf b i t) (typeOf b i (field b i f 0)) ∷ [])
-      call-is e = record { is = call-whole ∙ rw (e, ← o) }
+      pub call-is : c ≡ n → Tests (whole (exprOf b i r)) (sameAll (typesAt b i r 1 3 n) (takesAt b i f 2 n) ∷ same (typeOf b i t) (typeOf b i (field b i f 0)) ∷ [])
+      call-is e = record { is = call-whole ∙ rw (← w, e, ← o) }
 
   -- a hash of n words, each of which lies, is of a power of two's width, and is an expression
   pub hash-is : {n : ℕ} → Typed b i r CH t → n ≡ field b i r 2 → Tests (whole (exprOf b i r)) (wordsAt b i r 3 n ∷ same (typeOf b i t) (wordType 256) ∷ [])
@@ -148,77 +148,91 @@ module _ {b i : List ℕ} {f : ℕ} (s : Stands b i f FUNCTION) (over : Ty → T
   unfolding folds accumulates takesAt group
   folds-is r t e h = rw (takes-are s, h, gives-is s)
 
-module _ {b i : List ℕ} {r t f : ℕ} (z : f ≡ field b i r 1) where
-  -- a list fold
-  module _ (g : Typed b i r CQ t) where
-    pub list-function : Stands b i f FUNCTION
-    list-function = rw z (names g 1 tt tt)
+-- a fold's record, of which `over` tells the type of what is folded, by its field 2 and an element's type
+pub record Fold (b i : List ℕ) (r t : ℕ) (over : ℕ → Ty → Ty) : Type 0 where
+  pub is : whole (exprOf b i r) ≡ folds (over (field b i r 2)) (takes (funOf b i (field b i r 1))) (gives (funOf b i (field b i r 1))) (typeOf b i t) (typeIs (exprOf b i (field b i r 3))) (typeIs (exprOf b i (field b i r 4)))
+  pub function : Stands b i (field b i r 1) FUNCTION
+  pub lies : Lies b i r 4
+  pub start : Stands b i (field b i r 4) EXPRESSION
+  pub type : Stands b i t TYPE
 
-    pub list-few : (field b i f 1 ≡ 2 → ⊥) → false ≡ whole (exprOf b i r)
-    unfolding whole asExpr
-    list-few h = sym (ap whole (made g) ∙ rw (← z) (folds-none list-function (λ x. listType x (field b i r 2)) _ _ _ h))
+module _ {b i : List ℕ} {r t : ℕ} where
+  -- over lists, of a bound; over arrays, of a size
+  pub list-fold : Typed b i r CQ t → Fold b i r t (λ n x. listType x n)
+  unfolding whole asExpr
+  list-fold g = record { is = ap whole (made g) ∙ rw (g .is); function = names g 1 tt tt; lies = typed-lies g 4 tt; start = names g 4 tt tt; type = typed-stands g }
 
-    pub list-folding : field b i f 1 ≡ 2 → Folding b i r f t
-    list-folding e = record { lies = typed-lies g 4 tt; start = names g 4 tt tt; function = list-function; takes = e; type = typed-stands g }
+  pub array-fold : Typed b i r CY t → Fold b i r t (λ n x. arrayType x n)
+  unfolding whole asExpr
+  array-fold g = record { is = ap whole (made g) ∙ rw (g .is); function = names g 1 tt tt; lies = typed-lies g 4 tt; start = names g 4 tt tt; type = typed-stands g }
 
-    pub list-fold-is : {n x p : ℕ} → field b i f 1 ≡ 2 → n ≡ field b i r 2 → x ≡ field b i f 3 → Part b i r 3 p → Tests (whole (exprOf b i r)) (same (typeOf b i p) (listType (typeOf b i x) n) ∷ accumulates b i r f t ∷ [])
-    unfolding whole asExpr
-    list-fold-is e o w q = record { is = ap whole (made g) ∙ rw (← z, ← g .is, folds-is list-function (λ y. listType y (field b i r 2)) r t (typeIs (exprOf b i (field b i r 3))) e, q .1, w, o) }
+  pub fold-bound : {n : ℕ} → Typed b i r CQ t → n ≡ field b i r 2 → Bound n
+  unfolding inRange
+  fold-bound g o = rw o (ranged g 2 tt)
 
-    pub fold-bound : {n : ℕ} → n ≡ field b i r 2 → Bound n
-    unfolding inRange
-    fold-bound o = rw o (ranged g 2 tt)
+  pub fold-size : {n : ℕ} → Typed b i r CY t → n ≡ field b i r 2 → (1 ≤ n) × (n ≤ 256)
+  unfolding inRange within
+  fold-size g o =
+      let w : T (within 1 256 (field b i r 2)) = ranged g 2 tt in
+      rw o (leb→le 1 _ (both-left (leb 1 (field b i r 2)) _ w), leb→le _ 256 (both-right (leb 1 (field b i r 2)) _ w))
 
-  -- an array fold
-  module _ (g : Typed b i r CY t) where
-    pub array-function : Stands b i f FUNCTION
-    array-function = rw z (names g 1 tt tt)
+-- its function f, of c parameters
+module _ {b i : List ℕ} {r t f : ℕ} {over : ℕ → Ty → Ty} (w : Fold b i r t over) (z : f ≡ field b i r 1) where
+  pub fold-function : Stands b i f FUNCTION
+  fold-function = rw z (w .function)
 
-    pub array-few : (field b i f 1 ≡ 2 → ⊥) → false ≡ whole (exprOf b i r)
-    unfolding whole asExpr
-    array-few h = sym (ap whole (made g) ∙ rw (← z) (folds-none array-function (λ x. arrayType x (field b i r 2)) _ _ _ h))
+  module _ {c : ℕ} (q : c ≡ field b i f 1) where
+    pub fold-few : (c ≡ 2 → ⊥) → false ≡ whole (exprOf b i r)
+    fold-few h = sym (w .is ∙ rw (← z) (folds-none fold-function (over (field b i r 2)) _ _ _ (λ e. h (q ∙ e))))
 
-    pub array-folding : field b i f 1 ≡ 2 → Folding b i r f t
-    array-folding e = record { lies = typed-lies g 4 tt; start = names g 4 tt tt; function = array-function; takes = e; type = typed-stands g }
+    pub folding : c ≡ 2 → Folding b i r f t
+    folding e = record { lies = w .lies; start = w .start; function = fold-function; takes = sym q ∙ e; type = w .type }
 
-    pub array-fold-is : {n x p : ℕ} → field b i f 1 ≡ 2 → n ≡ field b i r 2 → x ≡ field b i f 3 → Part b i r 3 p → Tests (whole (exprOf b i r)) (same (typeOf b i p) (arrayType (typeOf b i x) n) ∷ accumulates b i r f t ∷ [])
-    unfolding whole asExpr
-    array-fold-is e o w q = record { is = ap whole (made g) ∙ rw (← z, ← g .is, folds-is array-function (λ y. arrayType y (field b i r 2)) r t (typeIs (exprOf b i (field b i r 3))) e, q .1, w, o) }
+    pub fold-is : {n x p : ℕ} → c ≡ 2 → n ≡ field b i r 2 → x ≡ field b i f 3 → Part b i r 3 p → Tests (whole (exprOf b i r)) (same (typeOf b i p) (over n (typeOf b i x)) ∷ accumulates b i r f t ∷ [])
+    fold-is e o y a = record { is = w .is ∙ rw (← z, folds-is fold-function (over (field b i r 2)) r t (typeIs (exprOf b i (field b i r 3))) (sym q ∙ e), a .1, y, o) }
 
-    pub fold-size : {n : ℕ} → n ≡ field b i r 2 → (1 ≤ n) × (n ≤ 256)
-    unfolding inRange within
-    fold-size {n} o =
-        let w : T (within 1 256 (field b i r 2)) = ranged g 2 tt in
-        rw o (leb→le 1 _ (both-left (leb 1 (field b i r 2)) _ w), leb→le _ 256 (both-right (leb 1 (field b i r 2)) _ w))
+-- a loop and its function f
+module _ {b i : List ℕ} {r t f : ℕ} (g : Typed b i r CW t) (z : f ≡ field b i r 1) where
+  pub loop-function : Stands b i f FUNCTION
+  loop-function = rw z (names g 1 tt tt)
 
-  -- a loop
-  module _ (g : Typed b i r CW t) where
-    pub loop-function : Stands b i f FUNCTION
-    loop-function = rw z (names g 1 tt tt)
+  pub loop-few : {c : ℕ} → c ≡ field b i f 1 → (c ≡ 3 → ⊥) → false ≡ whole (exprOf b i r)
+  unfolding whole asExpr
+  loop-few q h = sym (ap whole (made g) ∙ rw (← z) (loops-three _ (takes (funOf b i f)) _ _ _ _ (λ e. h (q ∙ sym (takes-length b i f (field b i f 1) 2) ∙ ap length (sym (takes-are loop-function)) ∙ e))))
 
-    pub loop-few : (field b i f 1 ≡ 3 → ⊥) → false ≡ whole (exprOf b i r)
-    unfolding whole asExpr
-    loop-few h = sym (ap whole (made g) ∙ rw (← z) (loops-three _ (takes (funOf b i f)) _ _ _ _ (λ e. h (sym (takes-length b i f (field b i f 1) 2) ∙ ap length (sym (takes-are loop-function)) ∙ e))))
+  pub loop-power : {w : ℕ} → w ≡ field b i r 2 → T (among powers w)
+  unfolding inRange
+  loop-power o = rw o (power-among 1 16 _ (ranged g 2 tt))
 
-    pub loop-is : {w a x y : ℕ} → field b i f 1 ≡ 3 → w ≡ field b i r 2 → a ≡ field b i f 3 → x ≡ field b i f 5 → y ≡ field b i f 7 → Tests (whole (exprOf b i r)) (same (typeOf b i y) (wordType w) ∷ same (typeIs (exprOf b i (field b i r 3))) (typeOf b i a) ∷ same (typeIs (exprOf b i (field b i r 4))) (typeOf b i x) ∷ isAt (sideIs TS 1 (typeOf b i t)) (typeOf b i a) ∷ same (typeOf b i (field b i f 0)) (typeOf b i t) ∷ [])
-    unfolding whole asExpr loops takesAt group
-    loop-is e o p q u = record { is = ap whole (made g) ∙ rw (← z, ← g .is, takes-are loop-function, e, gives-is loop-function, o, p, q, u) }
+-- what is read of a loop whose function takes three: the width w, the types of the accumulator a, the context x and the counter y
+pub record Looping (b i : List ℕ) (r t f w a x y : ℕ) : Type 0 where
+  pub tests : Tests (whole (exprOf b i r)) (same (typeOf b i y) (wordType w) ∷ same (typeIs (exprOf b i (field b i r 3))) (typeOf b i a) ∷ same (typeIs (exprOf b i (field b i r 4))) (typeOf b i x) ∷ isAt (sideIs TS 1 (typeOf b i t)) (typeOf b i a) ∷ same (typeOf b i (field b i f 0)) (typeOf b i t) ∷ [])
+  pub accumulator : Stands b i a TYPE
+  pub context : Stands b i x TYPE
+  pub counter : Stands b i y TYPE
 
-    pub loop-power : {w : ℕ} → w ≡ field b i r 2 → T (among powers w)
-    unfolding inRange
-    loop-power o = rw o (power-among 1 16 _ (ranged g 2 tt))
+pub looping : {b i : List ℕ} {r t f c w a x y : ℕ} → Typed b i r CW t → f ≡ field b i r 1 → c ≡ field b i f 1 → c ≡ 3 → w ≡ field b i r 2 → a ≡ field b i f 3 → x ≡ field b i f 5 → y ≡ field b i f 7 → Looping b i r t f w a x y
+unfolding whole asExpr loops takesAt group
+looping g z n e o p q u =
+    let s = loop-function g z in
+    record {
+      tests = record { is = ap whole (made g) ∙ rw (← z, ← g .is, takes-are s, ← n, e, gives-is s, o, p, q, u) };
+      accumulator = param-at s 0 n (omega arith) p;
+      context = param-at s 1 n (omega arith) q;
+      counter = param-at s 2 n (omega arith) u;
+    }
 
 -- powers of two are not great
 power-most : (x : ℕ) → T (among powers x) → x ≤ 256
 power-most = every powers (λ x. x ≤ 256) (omega arith also omega arith also omega arith also omega arith also omega arith also omega arith also omega arith also omega arith also omega arith also tt)
 
 -- the jets that a book names: how many arguments, each a word, and what they give
-pub record Usual (j : ℕ) : Type 0 where
-  pub some : 0 < jetOf j .arguments
-  pub word : T (among powers (jetOf j .input / jetOf j .arguments))
-  pub result : T (among (0 ∷ 1 ∷ 9 ∷ []) (jetOf j .output))
-  pub takes : jetTakes j ≡ replicate (jetOf j .arguments) (wordType (jetOf j .input / jetOf j .arguments))
-  pub gives : jetGives j ≡ resultType (jetOf j .output)
+record Usual (j : ℕ) : Type 0 where
+  some : 0 < jetOf j .arguments
+  word : T (among powers (jetOf j .input / jetOf j .arguments))
+  result : T (among (0 ∷ 1 ∷ 9 ∷ []) (jetOf j .output))
+  takes : jetTakes j ≡ replicate (jetOf j .arguments) (wordType (jetOf j .input / jetOf j .arguments))
+  gives : jetGives j ≡ resultType (jetOf j .output)
 
 usual : (j : ℕ) → j ≤ 2 → Usual j
 unfolding resultType power topOf halvings

@@ -13,7 +13,7 @@ is-accumulator-spec =
     (tie.spec
     (λ c κs. second-lies (c .before .before .pre))
     (λ c κs. (c .before .before .before .pre .lies, c .before .before .before .pre .start))
-    (λ c. fails (accumulates-is (c .before .before .before .before .before .pre) (c .before .before .field-at .ensures)) (differ (is-test (c .before .part-type .ensures) (second-stands (c .before .before .before .before .before .pre) (c .before .before .field-at .ensures))) (c .if1 .taken)))
-    (λ c. fails (passes (accumulates-is (c .before .before .before .before .before .before .pre) (c .before .before .before .field-at .ensures)) (equal (is-test (c .before .before .part-type .ensures) (second-stands (c .before .before .before .before .before .before .pre) (c .before .before .before .field-at .ensures))) (c .before .if1 .left))) (differ (types-same (c .before .before .before .before .before .before .pre .type) (second-stands (c .before .before .before .before .before .before .pre) (c .before .before .before .field-at .ensures))) (c .if2 .taken)))
+    (λ c. let s = second-stands (c .before .before .before .before .before .pre) (c .before .before .field-at .ensures) in fails (accumulates-is (c .before .before .before .before .before .pre) (c .before .before .field-at .ensures)) (differ (is-test (c .before .part-type .ensures) s) (c .if1 .taken)))
+    (λ c. let s = second-stands (c .before .before .before .before .before .before .pre) (c .before .before .before .field-at .ensures) in fails (passes (accumulates-is (c .before .before .before .before .before .before .pre) (c .before .before .before .field-at .ensures)) (equal (is-test (c .before .before .part-type .ensures) s) (c .before .if1 .left))) (differ (types-same (c .before .before .before .before .before .before .pre .type) s) (c .if2 .taken)))
     (λ c κs. result-lies (c .before .before .before .before .before .before .pre .function))
-    (λ c. tells (passes (passes (accumulates-is (c .before .before .before .before .before .before .before .pre) (c .before .before .before .before .field-at .ensures)) (equal (is-test (c .before .before .before .part-type .ensures) (second-stands (c .before .before .before .before .before .before .before .pre) (c .before .before .before .before .field-at .ensures))) (c .before .before .if1 .left))) (equal (types-same (c .before .before .before .before .before .before .before .pre .type) (second-stands (c .before .before .before .before .before .before .before .pre) (c .before .before .before .before .field-at .ensures))) (c .before .if2 .left))) (rw (c .field-at2 .ensures) (types-same (result-stands (c .before .before .before .before .before .before .before .pre .function)) (second-stands (c .before .before .before .before .before .before .before .pre) (c .before .before .before .before .field-at .ensures))))))
+    (λ c. let s = second-stands (c .before .before .before .before .before .before .before .pre) (c .before .before .before .before .field-at .ensures) in tells (passes (passes (accumulates-is (c .before .before .before .before .before .before .before .pre) (c .before .before .before .before .field-at .ensures)) (equal (is-test (c .before .before .before .part-type .ensures) s) (c .before .before .if1 .left))) (equal (types-same (c .before .before .before .before .before .before .before .pre .type) s) (c .before .if2 .left))) (rw (c .field-at2 .ensures) (types-same (result-stands (c .before .before .before .before .before .before .before .pre .function)) s))))
