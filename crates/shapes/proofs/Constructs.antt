@@ -1,7 +1,7 @@
 -- What each construct asks of its declared type, by the fields of its record: the tests in the order in which the code makes them.
 -- Assumes nothing.
 use Prim.Native.Nat.{ℕ, zero, suc, _+_, _*_, _≤_, _<_}
-use mathlib.Core.Bool.{Bool, true, false}
+use mathlib.Core.Bool.{true, false}
 use mathlib.Core.List.{List, [], _∷_}
 use mathlib.Core.Option.{Option, some, none}
 use mathlib.Core.Path.{_≡_, refl, sym, ap, _∙_}
@@ -9,19 +9,19 @@ use native.Mathlib.Omega.{arith}
 use borrow.Author.Tests.{eq-eqb, ne-eqb}
 use lib.Dec.{T, eqb, ltb, leb, ltb→lt, leb→le}
 use lib.ListN.{getD}
-use Rattle.laws.specs.Table.{pick, both, below, among, both-left, both-right, _also_, every}
+use Rattle.laws.specs.Table.{both, among, both-left, both-right, _also_, every}
 use Rattle.array.specs.Split.{topOf}
 use Rattle.simplicity.specs.Types.{Ty, one, two, same}
 use Rattle.simplicity.proofs.Safe.{same-is, is-same}
 use Rattle.book.specs.Format.{wordAt, inRange, TS, TYPE, EXPRESSION, STATEMENT, EC, ET, EL, E0, EN, EB, SA, SE, EM, EH, CL, CD, CA, CN, CK}
 use Rattle.book.specs.Index.{mark, field, Lies}
 use Rattle.book.specs.Stands.{Stands}
-use Rattle.book.specs.Tree.{Stmts, asExpr, asStmt, maker, tree, typeOf, exprOf, declaredOf, stmtOf, lastAt, stmtsAt, group}
+use Rattle.book.specs.Tree.{Stmts, asExpr, asStmt, maker, tree, typeOf, exprOf, declaredOf, stmtOf, lastAt, group}
 use Rattle.book.proofs.Roles.{layout, isKind, field-before}
 use Rattle.book.proofs.Standing.{stands-mark, stands-tree, head-lies, head-stands, head-ranged, each-stands, last-lies, tail-stands}
 use Rattle.parts.specs.Parts.{Spanned, spanAt}
 use Rattle.parts.specs.declared.view.Span.{Span}
-use Rattle.shapes.specs.Shapes.{typeIs, types, endType, rowType, listType, sums, isThere, isAt, placeOf, elementOf, hasPlaces, allAre, isListOf, sideOf, whole}
+use Rattle.shapes.specs.Shapes.{typeIs, endType, rowType, listType, sums, isThere, isAt, placeOf, elementOf, hasPlaces, allAre, isListOf, whole}
 use Rattle.shapes.specs.Views.{Bound, Gives, sideIs}
 use Rattle.shapes.specs.Wholes.{Row, Typed, typesAt}
 use Rattle.shapes.proofs.Same.{one-test, types-same, gives-at}
@@ -135,7 +135,7 @@ module _ {b i : List ℕ} {r t : ℕ} where
   unwrap-part (suc zero) g h = (typed-lies g 2 tt, names g 2 tt tt)
   unwrap-part (suc (suc k)) g h = absurd (omega arith)
 
-  -- the two arms of a match are a row of its own
+  -- a match: its two arms are a row
   pub arms-row : Typed b i r EM t → Row b i r 2 3 2
   arms-row g = record { few = omega arith; low = omega arith; near = omega arith; each = each }
     where
@@ -200,7 +200,7 @@ stmt-end {b} {i} {s} h rest = every (SA ∷ SE ∷ []) (λ m. mark b i s ≡ m �
     ((λ e. rw (stands-tree h SA e)) also (λ e. rw (stands-tree h SE e)) also tt)
     (mark b i s) (stands-mark h (among (SA ∷ SE ∷ [])) tt tt) refl
 
--- a block, whose end is field e
+-- a block: its statements, what it ends in, and where that stands
 module _ {b i : List ℕ} {r t : ℕ} (g : Typed b i r EB t) where
   stmts-end : (n k : ℕ) (rest : Stmts) → ((j : ℕ) → j < n → Stands b i (field b i r (k + j)) STATEMENT) → endType (group 1 rest (λ j. stmtOf b i (field b i r j)) k n) ≡ endType rest
   unfolding group
@@ -218,6 +218,7 @@ module _ {b i : List ℕ} {r t : ℕ} (g : Typed b i r EB t) where
   pub block-lies : {n : ℕ} → n ≡ field b i r 1 → Lies b i r (2 + n)
   block-lies e = rw e (last-lies (g .marked .stands) EB (g .marked .is) (2 + field b i r 1) (omega arith) tt)
 
+  -- e is its end
   module _ {n e : ℕ} (z : n ≡ field b i r 1) (o : e ≡ field b i r (2 + n)) where
     is-end : e ≡ field b i r (2 + field b i r 1)
     is-end = o ∙ rw z

@@ -1,9 +1,9 @@
 -- What a call, a fold, a loop, a hash and a jet ask of their declared types, by the fields of their records and of their function's.
 -- Assumes nothing.
 use Prim.Native.Nat.{ℕ, zero, suc, _+_, _-_, _*_, _/_, _≤_, _<_}
-use mathlib.Core.Bool.{Bool, true, false}
+use mathlib.Core.Bool.{false}
 use mathlib.Core.List.{List, [], _∷_}
-use mathlib.Core.Path.{_≡_, refl, sym, ap, ap₂, _∙_}
+use mathlib.Core.Path.{_≡_, refl, sym, ap, _∙_}
 use native.Mathlib.Omega.{arith}
 use borrow.Author.Tests.{ne-eqb}
 use lib.Dec.{T, leb, leb→le}
@@ -16,18 +16,18 @@ use Rattle.simplicity.specs.Types.{Ty, one, product, two, power, same}
 use Rattle.book.specs.Format.{inRange, within, powers, powerIn, TS, TP, TYPE, EXPRESSION, FUNCTION, CJ, CF, CQ, CY, CW, CH, FN}
 use Rattle.book.specs.Index.{mark, field, Lies}
 use Rattle.book.specs.Stands.{Stands}
-use Rattle.book.specs.Tree.{asExpr, asFun, tree, typeOf, exprOf, funOf, group}
+use Rattle.book.specs.Tree.{asExpr, asFun, typeOf, exprOf, funOf, group}
 use Rattle.book.proofs.Standing.{stands-tree, head-lies, head-stands, each-lies, each-stands, each-ranged, function-mark}
 use Rattle.parts.specs.Parts.{Marked, Spanned, spanAt}
 use Rattle.parts.specs.declared.view.Span.{Span}
 use Rattle.parts.proofs.Marks.{most}
-use Rattle.shapes.specs.Shapes.{typeIs, takes, gives, arrayType, listType, wordType, sums, sideOf, isAt, allAre, sameAll, folds, loops, jetTakes, jetGives, whole}
+use Rattle.shapes.specs.Shapes.{typeIs, takes, gives, arrayType, listType, wordType, isAt, allAre, sameAll, folds, loops, jetTakes, jetGives, whole}
 use Rattle.shapes.specs.Views.{Bound, sideIs}
 use Rattle.shapes.specs.Wholes.{Row, Typed, Folding, typesAt, takesAt, wordsAt, accumulates, resultType}
 use Rattle.shapes.proofs.Sides.{same-not, same-product}
 use Rattle.shapes.proofs.Walks.{Tests}
 use Rattle.shapes.proofs.Rows.{types-at, params-at, words-at, types-length, takes-length, same-length, same-replicate}
-use Rattle.shapes.proofs.Constructs.{Is, Part, made, names, ranged, typed-lies, typed-stands}
+use Rattle.shapes.proofs.Constructs.{Part, made, names, ranged, typed-lies, typed-stands}
 
 -- a function's record: its first two fields, and parameter k
 module _ {b i : List ℕ} {f : ℕ} (s : Stands b i f FUNCTION) where

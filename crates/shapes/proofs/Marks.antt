@@ -3,13 +3,13 @@
 use Prim.Native.Nat.{ℕ, _≤_, _<_}
 use mathlib.Core.Bool.{Bool, true, false}
 use mathlib.Core.List.{List, [], _∷_}
-use mathlib.Core.Path.{_≡_, refl, sym, ap, _∙_}
-use borrow.Author.Tests.{le-leb, lt-leb}
+use mathlib.Core.Path.{_≡_, refl, sym, _∙_}
+use borrow.Author.Tests.{lt-leb}
 use lib.Dec.{T, eqb, leb, ltb, eqb→eq}
 use lib.ListN.{getD}
 use Rattle.laws.specs.Table.{pick, among, _also_, every}
 use Rattle.simplicity.specs.Types.{one, product, same}
-use Rattle.book.specs.Format.{TS, TP, TYPE, VALUE, EXPRESSION, VU, VL, VR, VP, EC, EW, EV, ET, EL, E0, E1, EN, EB, EM, EH, CJ, CL, CR, CD, CA, CP, CN, CK, CF, CQ, CY, CW, CH}
+use Rattle.book.specs.Format.{TS, TP, TYPE, VALUE, VU, VL, VR, VP, EC, EW, EV, ET, EL, E0, E1, EN, EB, EM, EH, CJ, CL, CR, CD, CA, CP, CN, CK, CF, CQ, CY, CW, CH}
 use Rattle.book.specs.Index.{mark, field, Lies}
 use Rattle.book.specs.Stands.{Stands}
 use Rattle.book.specs.Tree.{asExpr, typeOf, exprOf, declaredOf}
@@ -24,7 +24,7 @@ use Rattle.shapes.proofs.Declared.{value-declares}
 use Rattle.shapes.proofs.Walks.{Tests}
 use Rattle.shapes.proofs.Constructs.{Is}
 
--- the mark is n
+-- the mark is n, of a record whose declared type is known and of one whose first field was read
 pub typed-at : {b i : List ℕ} {r m t : ℕ} → Typed b i r m t → (n : ℕ) → m ≡ n → Typed b i r n t
 typed-at g n e = rw (← e) g
 
@@ -46,6 +46,7 @@ abbrev left : List ℕ → (ℕ → Bool) → ℕ → Bool
 left ks c m = pick (c m) true (pick (among ks m) true (among freeMarks m))
 
 module _ {b i : List ℕ} {r m : ℕ} (g : Marked b i r m) where
+  -- at one of the free marks; where no mark of ks fits; after the calls' marks; after the others
   free-whole : T (among freeMarks m) → true ≡ whole (exprOf b i r)
   unfolding whole asExpr
   free-whole t = every freeMarks (λ n. mark b i r ≡ n → true ≡ whole (exprOf b i r))
@@ -64,8 +65,9 @@ module _ {b i : List ℕ} {r m : ℕ} (g : Marked b i r m) where
   pub other-rest : m < CJ → among otherMarks m ≡ false → true ≡ whole (exprOf b i r)
   other-rest h f = left-whole otherMarks (λ n. leb CJ n) (stands-mark (g .stands) (left otherMarks (λ n. leb CJ n)) tt tt) (lt-leb CJ m h) f
 
--- a value of mark m
+-- a value, and its mark x
 module _ {b i : List ℕ} {r x : ℕ} (s : Stands b i r VALUE) (e : x ≡ mark b i r) where
+  -- its fields, by the mark
   module _ (m : ℕ) (q : x ≡ m) where
     pub value-lies : (k : ℕ) → T (ltb k (layout m .heads)) → Lies b i r k
     value-lies k t = head-lies s m (sym e ∙ q) k t
@@ -81,6 +83,7 @@ module _ {b i : List ℕ} {r x : ℕ} (s : Stands b i r VALUE) (e : x ≡ mark b
       let v : T (eqb x VP) = rw f at u in
       sym e ∙ eqb→eq x VP v
 
+  -- what is asked of its declared type t: of unit, of left and right of a part of type p
   module _ {t : ℕ} (z : t ≡ field b i r 0) where
     pub value-type-stands : Stands b i t TYPE
     value-type-stands = rw z (value-declares s .stands)

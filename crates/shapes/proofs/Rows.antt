@@ -13,7 +13,7 @@ use Rattle.laws.specs.Table.{both, among, true-false}
 use Rattle.simplicity.specs.Types.{Ty, one, product, same}
 use Rattle.simplicity.proofs.Safe.{same-is, is-same}
 use Rattle.array.proofs.Rows.{row-none}
-use Rattle.book.specs.Index.{field, Lies}
+use Rattle.book.specs.Index.{field}
 use Rattle.book.specs.Tree.{Tree, group, tree, typeOf, exprOf, exprsAt, armsAt, partsAt, paramsAt}
 use Rattle.parts.specs.Parts.{Marked, Spanned, rowMarks}
 use Rattle.parts.specs.declared.view.Span.{Span}
@@ -47,6 +47,7 @@ unfolding isAt
 is-at o u e = rw e (is-same u u refl)
 
 module _ (b i : List ℕ) (r : ℕ) where
+  -- what its fields name
   abbrev names : ℕ → Tree
   names k = tree b i (field b i r k)
 
@@ -133,12 +134,12 @@ module _ (b i : List ℕ) (r : ℕ) where
       let l : length ts ≡ n = types-length n s k in
       one-test _ _
       (λ e. is-same t (rowType ts) (row-places ts t (rw l h) (λ j o.
-          let q : j < n = rw l at o in
-          rw (l, types-get n s k j q) (at-is _ (partAt s k j) (walk-each (placeIs t s k n) n e j q)))))
+      let q : j < n = rw l at o in
+      rw (l, types-get n s k j q) (at-is _ (partAt s k j) (walk-each (placeIs t s k n) n e j q)))))
       (λ e. each-walk (placeIs t s k n) 0 n (λ j o u.
-          let q : j < n = omega arith in
-          let p : placeOf products (length ts) j t ≡ some (getD ts j one) = rw (same-is t (rowType ts) e) (places-row ts j (rw l q)) in
-          is-at _ (partAt s k j) (rw (l, types-get n s k j q) at p)))
+      let q : j < n = omega arith in
+      let p : placeOf products (length ts) j t ≡ some (getD ts j one) = rw (same-is t (rowType ts) e) (places-row ts j (rw l q)) in
+      is-at _ (partAt s k j) (rw (l, types-get n s k j q) at p)))
 
 -- rows of unlike lengths are not the same; one that is of a type throughout
 pub same-length : (ts us : List Ty) → (length ts ≡ length us → ⊥) → sameAll ts us ≡ false

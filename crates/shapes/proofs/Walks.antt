@@ -1,4 +1,4 @@
--- A test that passes at each number of a range, in the order in which a loop comes to them.
+-- Tests in their order: those that code makes one after the other, and one that a loop makes at each number of a range.
 -- Assumes nothing.
 use Prim.Native.Nat.{ℕ, zero, suc, _+_, _-_, _≤_, _<_}
 use mathlib.Core.Bool.{Bool, true, false, not}
@@ -58,26 +58,27 @@ pub walk-is : (f : ℕ → Bool) (g : ℕ → ℕ → Bool) → ((k : ℕ) → g
 walk-is f g e s k zero = sym (e k)
 walk-is f g e s k (suc m) = ap (both (f k)) (walk-is f g e s (k + 1) m) ∙ sym (s k m)
 
+-- where both of two tests hold, the first does, and the second
+both-first : (t u : Bool) → both t u ≡ true → t ≡ true
+both-first true u e = refl
+both-first false u e = e
+
+both-second : (t u : Bool) → both t u ≡ true → u ≡ true
+both-second true u e = e
+both-second false u e = absurd (true-false (sym e))
+
 module _ (f : ℕ → Bool) where
   -- it passes there exactly where it passes at each
   pub each-walk : (k m : ℕ) → ((j : ℕ) → k ≤ j → j < k + m → f j ≡ true) → walk f k m ≡ true
   each-walk k zero h = refl
   each-walk k (suc m) h = rw (h k (omega arith) (omega arith)) (each-walk (k + 1) m (λ j o l. h j (omega arith) (omega arith)))
 
-  first-walk : (t u : Bool) → both t u ≡ true → t ≡ true
-  first-walk true u e = refl
-  first-walk false u e = e
-
-  rest-walk : (t u : Bool) → both t u ≡ true → u ≡ true
-  rest-walk true u e = e
-  rest-walk false u e = absurd (true-false (sym e))
-
   from-each : (m k : ℕ) → walk f k m ≡ true → (j : ℕ) → j < m → f (k + j) ≡ true
   from-each zero k e j h = absurd (omega arith)
-  from-each (suc m) k e zero h = let z : k + 0 ≡ k = omega arith in rw z (first-walk (f k) (walk f (k + 1) m) e)
+  from-each (suc m) k e zero h = let z : k + 0 ≡ k = omega arith in rw z (both-first (f k) (walk f (k + 1) m) e)
   from-each (suc m) k e (suc j) h =
       let z : k + 1 + j ≡ k + suc j = omega arith in
-      rw z at (from-each m (k + 1) (rest-walk (f k) (walk f (k + 1) m) e) j (omega arith))
+      rw z at (from-each m (k + 1) (both-second (f k) (walk f (k + 1) m) e) j (omega arith))
 
   pub walk-each : (m : ℕ) → walk f 0 m ≡ true → (j : ℕ) → j < m → f j ≡ true
   walk-each m e j h = let z : 0 + j ≡ j = omega arith in rw z at (from-each m 0 e j h)
@@ -87,10 +88,12 @@ pub record Left (f : ℕ → Bool) (n : ℕ) (w : Bool) (k : ℕ) : Type 0 where
   pub most : k ≤ n
   pub is : walk f k (n - k) ≡ w
 
+-- it begins
 pub left-start : {f : ℕ → Bool} {n : ℕ} {w : Bool} → walk f 0 n ≡ w → Left f n w 0
 left-start {n = n} e = let z : n - 0 ≡ n = omega arith in record { most = omega arith; is = rw z e }
 
 module _ {f : ℕ → Bool} {n k : ℕ} {w : Bool} (l : Left f n w k) where
+  -- what is left is the test at k, and then the others
   left-next : k < n → Tests w (f k ∷ walk f (k + 1) (n - (k + 1)) ∷ [])
   left-next h = let z : n - k ≡ suc (n - (k + 1)) = omega arith in record { is = sym (l .is) ∙ rw z }
 
