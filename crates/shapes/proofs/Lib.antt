@@ -6,3 +6,8 @@ mod Ways
 mod Powers
 mod Halves
 mod Lists
+mod Walks
+mod Rows
+mod Constructs
+mod Functions
+mod Marks
