@@ -6,12 +6,13 @@ use mathlib.Core.List.{List, [], _∷_, _++_}
 use mathlib.Core.Option.{Option, some, none}
 use mathlib.Core.Path.{_≡_, refl, sym, _∙_}
 use native.Mathlib.Omega.{arith}
-use borrow.Author.Tests.{ne-eqb}
+use borrow.Author.Tests.{eqb-false, ne-eqb}
+use lib.Dec.{eqb}
 use lib.ListN.{getD, set}
 use Rattle.laws.specs.Table.{true-false}
 use Rattle.array.specs.Path.{Side, path}
 use Rattle.simplicity.specs.Types.{Ty}
-use Rattle.book.specs.Format.{TYPE, PI, PT}
+use Rattle.book.specs.Format.{TYPE, PATTERN, PI, PT}
 use Rattle.book.specs.Index.{mark, field}
 use Rattle.book.specs.Stands.{Stands}
 use Rattle.book.specs.Tree.{Pat, patRow, asPattern, group, patternOf, typeOf}
@@ -117,6 +118,10 @@ module _ {b i : List ℕ} {p t : ℕ} (d : Binds b i p t) where
   pub skips-none : (x n : ℕ) → mark b i p ≡ PT → n ≡ field b i p 0 → Skips x (patternOf b i p) 1 (λ j. patternOf b i (field b i p j)) 1 n 0
   skips-none x n e z = record { rest = finds-row (d .pattern) x n e z }
 
+  -- an element, record u, has not the name: the search goes on
+  pub skips-element : {x n k u : ℕ} → Skips x (patternOf b i p) 1 (λ j. patternOf b i (field b i p j)) 1 n k → (j : ℕ) → k < n → j ≡ 1 + k → u ≡ field b i p j → (q : ℕ) → q ≡ k + 1 → find x (patternOf b i u) ≡ none → Skips x (patternOf b i p) 1 (λ j. patternOf b i (field b i p j)) 1 n q
+  skips-element w j o y f q z e = skips-next w j o (omega arith) q z (rw f at e)
+
   -- the name is nowhere in it
   sights-none : {x : ℕ} {ms : List ℕ} → Memo b i x ms → find x (patternOf b i p) ≡ none → Sights b i x (patternOf b i p) (typeOf b i t) NONE ms
   sights-none v e = record { memo = v; seen = absent refl e }
@@ -140,6 +145,14 @@ module _ {b i : List ℕ} {p t : ℕ} (d : Binds b i p t) where
 
     pub sights-ignored : (m ≡ PT → ⊥) → (m ≡ PI → ⊥) → Sights b i x (patternOf b i p) (typeOf b i t) NONE ms
     sights-ignored f g = sights-none v (finds-none (d .pattern) x (λ e. f (is ∙ e)) (λ e. g (is ∙ e)))
+
+-- a pattern has not the name x: it is another name, or neither a name nor a row
+module _ {b i : List ℕ} {p : ℕ} (h : Stands b i p PATTERN) (x m : ℕ) (is : m ≡ mark b i p) where
+  pub other-not : (y : ℕ) → m ≡ PI → y ≡ field b i p 0 → eqb y x ≡ false → find x (patternOf b i p) ≡ none
+  other-not y e f o = finds-name h x (sym is ∙ e) ∙ name-not x _ y f (eqb-false y x o)
+
+  pub ignored-not : (m ≡ PI → ⊥) → eqb m PT ≡ false → find x (patternOf b i p) ≡ none
+  ignored-not g o = finds-none h x (λ e. eqb-false m PT o (is ∙ e)) (λ e. g (is ∙ e))
 
 -- what the search in an element, record u, left: it goes on in the row, or ends there
 module _ {b i : List ℕ} {p t n k u s x r : ℕ} {ms : List ℕ} (w : Skips x (patternOf b i p) 1 (λ j. patternOf b i (field b i p j)) 1 n k) (d : Element b i p t n k u s) (h : Sights b i x (patternOf b i u) (typeOf b i s) r ms) (j : ℕ) (o : k < n) (y : j ≡ 1 + k) (f : u ≡ field b i p j) where

@@ -2,6 +2,8 @@
 // entered again for what is known of it.
 ghost use mathlib.Core.List.{[], _∷_};
 ghost use mathlib.Core.Path.{_≡_};
+ghost use mathlib.Core.Bool.{false};
+ghost use mathlib.Core.Option.{none};
 ghost use Prim.Native.Nat.{_<_, _≤_};
 ghost use lib.ListN.{length, replicate};
 ghost use Rattle.book.specs.Format.{TYPE, PATTERN, FUNCTION, PT};
@@ -9,7 +11,7 @@ ghost use Rattle.book.specs.Index.{mark};
 ghost use Rattle.book.specs.Stands.{Stands};
 ghost use Rattle.book.specs.Valid.{Valid};
 ghost use Rattle.book.specs.Tree.{typeOf, patternOf, funOf};
-ghost use Rattle.pattern.specs.Find.{paramsOf};
+ghost use Rattle.pattern.specs.Find.{find, paramsOf};
 ghost use Rattle.pattern.specs.Seeks.{Memo};
 ghost use Rattle.shapes.specs.Views.{Gives};
 ghost use Rattle.binders.specs.Binders.{fits, names, paramNames, twice, typeFor, scopeIn};
@@ -237,6 +239,22 @@ fn type_in(book: &[u8], index: &[u16], p: u16, t: u16, name: u16, missing: &mut 
     NONE
 }
 
+// Whether a pattern may have a name: it is that name, or a row in which it was not sought in vain. Most elements of a wide row are
+// passed so, without the way down to their type.
+fn may_have(book: &[u8], index: &[u16], p: u16, name: u16, missing: &[u8]) -> bool
+    requires { ⌜ Stands (now book) (now index) p PATTERN ⌝ ∗ ⌜ Memo (now book) (now index) name (now missing) ⌝ }
+    ensures { λ r. ⌜ (r ≡ false → find name (patternOf (now (book .entry)) (now (index .entry)) p) ≡ none) ⌝ }
+{
+    if missing[p as usize] == 1 {
+        return false;
+    }
+    let mark = mark_at(book, index, p);
+    if mark == PI {
+        return field_at(book, index, p, 0) == name;
+    }
+    mark == PT
+}
+
 // The same for a row: its elements one after another, each with the type at its place.
 fn type_in_row(book: &[u8], index: &[u16], p: u16, t: u16, name: u16, missing: &mut [u8]) -> u16
     requires { ⌜ Binds (now book) (now index) p t ⌝ ∗ ⌜ mark (now book) (now index) p ≡ PT ⌝ ∗ ⌜ Memo (now book) (now index) name (now missing) ⌝ }
@@ -246,6 +264,10 @@ fn type_in_row(book: &[u8], index: &[u16], p: u16, t: u16, name: u16, missing: &
     let mut k: u32 = 0;
     while k < n {
         let part = field_at(book, index, p, 1 + (k as usize));
+        if !may_have(book, index, part, name, missing) {
+            k += 1;
+            continue;
+        }
         let s = place(book, index, TP, t, n, k);
         let found = type_in(book, index, part, s, name, missing);
         if found != NONE {

@@ -5,13 +5,14 @@ use mathlib.Core.Path.{refl, sym, _∙_}
 use native.Mathlib.Omega.{arith}
 use lib.ListN.{length-set}
 use borrow.Author.Needs.{needs}
+use borrow.Author.Tests.{not-true}
 use Rattle.book.specs.Index.{field}
 use Rattle.book.specs.Tree.{patternOf}
 use Rattle.book.proofs.Standing.{stands-begins}
 use Rattle.pattern.specs.Seeks.{Memo}
 use Rattle.pattern.proofs.Memos.{memo-fits}
-use Rattle.pattern.proofs.Records.{name-lies, row-count, row-lies, row-most}
-use Rattle.binders.proofs.Sights.{Skips, binds-element, skips-none, sights-known, sights-row, sights-name, sights-other, sights-ignored, element-none, element-found}
+use Rattle.pattern.proofs.Records.{name-lies, row-count, row-lies, row-most, row-part}
+use Rattle.binders.proofs.Sights.{Skips, binds-element, skips-none, skips-element, sights-known, sights-row, sights-name, sights-other, sights-ignored, element-none, element-found}
 use borrow.Fn.Kinds.{In}
 use borrow.Fn.PlainCycle.{Measures, is, falls, and}
 use Rattle.binders.proofs.type_in.Reads as type-in
@@ -22,6 +23,7 @@ use Rattle.binders.proofs.type_in_row.Kinds as type-in-row-kinds
 use Rattle.binders.proofs.+type_in+type_in_row.Lts-type_in_row as type-in-row-lts
 use Rattle.book.proofs.record.field_at.Reads as field-at-reads
 use Rattle.book.proofs.record.mark_at.Reads as mark-at-reads
+use Rattle.binders.proofs.may_have.Reads as may-have-reads
 use Rattle.shapes.proofs.part.place.Reads as place-reads
 use Rattle.binders.proofs.+type_in+type_in_row.{statement}
 use Rattle.binders.proofs.+type_in+type_in_row.Tie.{close}
@@ -54,7 +56,7 @@ abbrev type-in-claims : ℕ → type-in-lts.Claims
 type-in-claims t = (mark-at-reads.Asked, mark-at-reads.Learnt, type-in-row-below t, type-in-row.Post, field-at-reads.Asked, field-at-reads.Learnt)
 
 abbrev type-in-row-claims : ℕ → type-in-row-lts.Claims
-type-in-row-claims t = (field-at-reads.Asked, field-at-reads.Learnt, place-reads.Asked, place-reads.Learnt, type-in-below t, type-in.Post)
+type-in-row-claims t = (field-at-reads.Asked, field-at-reads.Learnt, may-have-reads.Asked, may-have-reads.Learnt, place-reads.Asked, place-reads.Learnt, type-in-below t, type-in.Post)
 
 pub +type-in+type-in-row-spec : {M : Type 1} → statement M
 +type-in+type-in-row-spec = close μ-type-in μ-type-in-row
@@ -78,13 +80,17 @@ pub +type-in+type-in-row-spec : {M : Type 1} → statement M
     (λ c. search needs)
     (λ c. search needs)
     (λ c κs. search row-lies)
-    (λ c κs. (c .before .before .before .before .before .before .before .pre .1 .0 .type, (tt, (c .before .loop-test .taken, row-most (c .before .before .before .before .before .before .before .pre .1 .0 .pattern) _ (c .before .before .before .before .before .before .before .pre .1 .1 .0) (c .before .before .before .field-at .ensures)))))
-    (λ c κs. let e = binds-element (c .before .before .before .before .before .before .before .before .before .pre .1 .0) _ _ _ _ _ (c .before .before .before .before .before .before .before .before .before .pre .1 .1 .0) (c .before .before .before .before .before .field-at .ensures) (c .before .before .before .loop-test .taken) refl (c .before .before .field-at2 .ensures) (c .before .place .ensures) in (omega (arith, e .below), (e .binds, c .before .before .before .before .loop .inv .0)))
-    (λ c. c .before .before .before .type-in .ensures .memo .size ∙ sym (c .before .before .before .before .before .before .before .before .before .before .before .before .before .pre .1 .1 .1 .size))
-    (λ c. element-found (c .before .before .before .before .before .before .before .before .loop .inv .1) (binds-element (c .before .before .before .before .before .before .before .before .before .before .before .before .before .pre .1 .0) _ _ _ _ _ (c .before .before .before .before .before .before .before .before .before .before .before .before .before .pre .1 .1 .0) (c .before .before .before .before .before .before .before .before .before .field-at .ensures) (c .before .before .before .before .before .before .before .loop-test .taken) refl (c .before .before .before .before .before .before .field-at2 .ensures) (c .before .before .before .before .before .place .ensures)) (c .before .before .before .type-in .ensures) _ (c .before .before .before .before .before .before .before .loop-test .taken) refl (c .before .before .before .before .before .before .field-at2 .ensures) (c .if1 .taken))
+    (λ c κs. (row-part (c .before .before .before .before .before .before .before .before .pre .1 .0 .pattern) _ _ _ (c .before .before .before .before .before .before .before .before .pre .1 .1 .0) (c .before .before .before .before .field-at .ensures) (c .before .before .loop-test .taken) refl _ (c .before .field-at2 .ensures) .0, c .before .before .before .loop .inv .0))
     (λ c. search needs)
     (λ c. search needs)
-    (λ c. element-none (c .before .before .before .before .before .before .before .before .loop .inv .1) (binds-element (c .before .before .before .before .before .before .before .before .before .before .before .before .before .pre .1 .0) _ _ _ _ _ (c .before .before .before .before .before .before .before .before .before .before .before .before .before .pre .1 .1 .0) (c .before .before .before .before .before .before .before .before .before .field-at .ensures) (c .before .before .before .before .before .before .before .loop-test .taken) refl (c .before .before .before .before .before .before .field-at2 .ensures) (c .before .before .before .before .before .place .ensures)) (c .before .before .before .type-in .ensures) _ (c .before .before .before .before .before .before .before .loop-test .taken) refl (c .before .before .before .before .before .before .field-at2 .ensures) _ refl (c .if1 .left))
+    (λ c. (c .before .before .before .before .before .loop .inv .0, skips-element (c .before .before .before .before .before .before .before .before .before .before .pre .1 .0) (c .before .before .before .before .before .loop .inv .1) _ (c .before .before .before .before .loop-test .taken) refl (c .before .before .before .field-at2 .ensures) _ refl (c .before .may-have .ensures (not-true _ (c .if1 .taken)))))
+    (λ c κs. (c .before .before .before .before .before .before .before .before .before .before .pre .1 .0 .type, (tt, (c .before .before .before .before .loop-test .taken, row-most (c .before .before .before .before .before .before .before .before .before .before .pre .1 .0 .pattern) _ (c .before .before .before .before .before .before .before .before .before .before .pre .1 .1 .0) (c .before .before .before .before .before .before .field-at .ensures)))))
+    (λ c κs. let e = binds-element (c .before .before .before .before .before .before .before .before .before .before .before .before .pre .1 .0) _ _ _ _ _ (c .before .before .before .before .before .before .before .before .before .before .before .before .pre .1 .1 .0) (c .before .before .before .before .before .before .before .before .field-at .ensures) (c .before .before .before .before .before .before .loop-test .taken) refl (c .before .before .before .before .before .field-at2 .ensures) (c .before .place .ensures) in (omega (arith, e .below), (e .binds, c .before .before .before .before .before .before .before .loop .inv .0)))
+    (λ c. c .before .before .before .type-in .ensures .memo .size ∙ sym (c .before .before .before .before .before .before .before .before .before .before .before .before .before .before .before .before .pre .1 .1 .1 .size))
+    (λ c. element-found (c .before .before .before .before .before .before .before .before .before .before .before .loop .inv .1) (binds-element (c .before .before .before .before .before .before .before .before .before .before .before .before .before .before .before .before .pre .1 .0) _ _ _ _ _ (c .before .before .before .before .before .before .before .before .before .before .before .before .before .before .before .before .pre .1 .1 .0) (c .before .before .before .before .before .before .before .before .before .before .before .before .field-at .ensures) (c .before .before .before .before .before .before .before .before .before .before .loop-test .taken) refl (c .before .before .before .before .before .before .before .before .before .field-at2 .ensures) (c .before .before .before .before .before .place .ensures)) (c .before .before .before .type-in .ensures) _ (c .before .before .before .before .before .before .before .before .before .before .loop-test .taken) refl (c .before .before .before .before .before .before .before .before .before .field-at2 .ensures) (c .if2 .taken))
+    (λ c. search needs)
+    (λ c. search needs)
+    (λ c. element-none (c .before .before .before .before .before .before .before .before .before .before .before .loop .inv .1) (binds-element (c .before .before .before .before .before .before .before .before .before .before .before .before .before .before .before .before .pre .1 .0) _ _ _ _ _ (c .before .before .before .before .before .before .before .before .before .before .before .before .before .before .before .before .pre .1 .1 .0) (c .before .before .before .before .before .before .before .before .before .before .before .before .field-at .ensures) (c .before .before .before .before .before .before .before .before .before .before .loop-test .taken) refl (c .before .before .before .before .before .before .before .before .before .field-at2 .ensures) (c .before .before .before .before .before .place .ensures)) (c .before .before .before .type-in .ensures) _ (c .before .before .before .before .before .before .before .before .before .before .loop-test .taken) refl (c .before .before .before .before .before .before .before .before .before .field-at2 .ensures) _ refl (c .if2 .left))
     (λ c. search memo-fits)
     (λ c. length-set (c .before .loop .missing) (c .before .before .before .before .before .before .args .p) 1 ∙ c .before .loop .inv .0 .size ∙ sym (c .before .before .before .before .before .before .pre .1 .1 .1 .size))
     (λ c. search sights-row))
