@@ -166,13 +166,12 @@ fn note_row(book: &[u8], index: &[u16], p: u16, met: &mut [u8], nameless: &mut [
 }
 
 // Whether a pattern has a name twice.
-pub fn repeats(book: &[u8], index: &[u16], p: u16) -> bool
-    requires { ⌜ Stands (now book) (now index) p PATTERN ⌝ }
-    ensures { λ r. ⌜ r ≡ twice (names (patternOf (now (book .entry)) (now (index .entry)) p)) ⌝ }
+fn repeats(book: &[u8], index: &[u16], p: u16, nameless: &mut [u8]) -> bool
+    requires { ⌜ Stands (now book) (now index) p PATTERN ⌝ ∗ ⌜ Nameless (now book) (now index) (now nameless) ⌝ }
+    ensures { λ r. ⌜ (r ≡ twice (names (patternOf (now (book .entry)) (now (index .entry)) p))) × Nameless (now (book .entry)) (now (index .entry)) (now (nameless .exit)) ⌝ }
 {
     let mut met = [0u8; 65536];
-    let mut nameless = [0u8; 4096];
-    match note_all(book, index, p, &mut met, &mut nameless) {
+    match note_all(book, index, p, &mut met, nameless) {
         Noted::Twice => true,
         Noted::Named => false,
         Noted::Unnamed => false,
@@ -180,15 +179,16 @@ pub fn repeats(book: &[u8], index: &[u16], p: u16) -> bool
 }
 
 // Marks each of the first n records that is a pattern with a name twice. It is worked out before patterns are bound, so that no row of
-// names stands in a recursion.
+// names stands in a recursion. What is found to have no names is known to all patterns.
 pub fn doubles(book: &[u8], index: &[u16], n: u16, doubled: &mut [u8])
     requires { ⌜ Valid (now book) (now index) n ⌝ ∗ ⌜ now doubled ≡ replicate 4096 0 ⌝ }
     ensures { λ _. ⌜ Doubled (now (book .entry)) (now (index .entry)) n (now (doubled .exit)) ⌝ }
 {
+    let mut nameless = [0u8; 4096];
     let mut r: u16 = 0;
     while r < n {
         if mark_at(book, index, r) == PT {
-            if repeats(book, index, r) {
+            if repeats(book, index, r, &mut nameless) {
                 doubled[r as usize] = 1;
             }
         }
