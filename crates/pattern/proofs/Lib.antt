@@ -1,4 +1,4 @@
 pub mod Selectors
 pub mod Memos
-mod Passes
-mod Records
+pub mod Passes
+pub mod Records

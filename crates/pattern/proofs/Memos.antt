@@ -27,10 +27,16 @@ zeros zero r = refl
 zeros (suc n) zero = refl
 zeros (suc n) (suc r) = zeros n r
 
+pub zero-at : {ms : List ℕ} (n : ℕ) → ms ≡ replicate n 0 → (r : ℕ) → getD ms r 0 ≡ 0
+zero-at n e r = ap (λ l. getD l r 0) e ∙ zeros n r
+
+pub zero-size : {ms : List ℕ} (n : ℕ) → ms ≡ replicate n 0 → length ms ≡ n
+zero-size n e = ap length e ∙ length-replicate {A = ℕ} n 0
+
 pub memo-none : (b i : List ℕ) (x : ℕ) (ms : List ℕ) → ms ≡ replicate 4096 0 → Memo b i x ms
 memo-none b i x ms e = record {
-  size = ap length e ∙ length-replicate {A = ℕ} 4096 0;
-  sound = λ r z. absurd (let o : getD ms r 0 ≡ 0 = ap (λ l. getD l r 0) e ∙ zeros 4096 r in omega arith);
+  size = zero-size 4096 e;
+  sound = λ r z. absurd (omega (arith, zero-at 4096 e r));
 }
 
 -- one more record in which the name was sought in vain

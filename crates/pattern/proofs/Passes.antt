@@ -26,7 +26,7 @@ rowAt s a = group s noPats (λ j. morePats (a j))
 unfoldable pub left : ℕ → ℕ → (ℕ → Pat) → ℕ → ℕ → ℕ → Option (List Side)
 left x s a h n k = findFrom x n k (rowAt s a (h + k * s) (n - k))
 
-size-row : (s : ℕ) (a : ℕ → Pat) (h m : ℕ) → size (rowAt s a h m) ≡ m
+pub size-row : (s : ℕ) (a : ℕ → Pat) (h m : ℕ) → size (rowAt s a h m) ≡ m
 unfolding size group
 size-row s a h zero = refl
 size-row s a h (suc m) = ap suc (size-row s a (h + s) m)
@@ -40,13 +40,13 @@ module _ (x s : ℕ) (a : ℕ → Pat) (h n : ℕ) where
       let y : n - 0 ≡ n = omega arith in
       ap (λ m. findFrom x m 0 (rowAt s a h n)) (size-row s a h n) ∙ rw (z, y)
 
-  left-next : (k j : ℕ) → k < n → j ≡ h + k * s → left x s a h n k ≡ within n k (find x (a j)) (left x s a h n (suc k))
+  pub left-next : (k j : ℕ) → k < n → j ≡ h + k * s → left x s a h n k ≡ within n k (find x (a j)) (left x s a h n (suc k))
   unfolding findFrom left
   left-next k j o e =
       let z : h + suc k * s ≡ j + s = omega arith in
       rw (← e, z, group-next s noPats (λ i. morePats (a i)) j (n - k) (j + s) (n - suc k) (omega arith) refl)
 
-  left-none : (k : ℕ) → n ≤ k → left x s a h n k ≡ none
+  pub left-none : (k : ℕ) → n ≤ k → left x s a h n k ≡ none
   unfolding findFrom left
   left-none k o = rw (group-none s noPats (λ i. morePats (a i)) (h + k * s) (n - k) (omega arith))
 

@@ -1,18 +1,18 @@
 -- The pattern of a record by its mark, and a function's parameters: where a name is found in them, and the fields that a search reads.
 -- Assumes nothing.
 use Prim.Native.Nat.{ℕ, zero, suc, _+_, _*_, _≤_, _<_}
-use mathlib.Core.Bool.{true}
+use mathlib.Core.Bool.{Bool, true, false}
 use mathlib.Core.List.{List}
 use mathlib.Core.Option.{none}
 use mathlib.Core.Path.{_≡_, refl, sym, ap, _∙_}
 use native.Mathlib.Omega.{arith}
-use borrow.Author.Tests.{ne-eqb}
+use borrow.Author.Tests.{eqb-true, eqb-false, ne-eqb}
 use lib.Dec.{T, eqb, eqb→eq}
 use Rattle.laws.specs.Table.{pick}
 use Rattle.book.specs.Format.{PATTERN, FUNCTION, PI, PN, PT, FN}
 use Rattle.book.specs.Index.{mark, field, Lies}
 use Rattle.book.specs.Stands.{Stands}
-use Rattle.book.specs.Tree.{name, patRow, morePats, Tree, asPattern, asFun, group, patternOf, funOf, tree, paramsAt}
+use Rattle.book.specs.Tree.{Pat, name, ignore, patRow, morePats, Tree, asPattern, asFun, group, patternOf, funOf, tree, paramsAt}
 use Rattle.book.proofs.Standing.{stands-mark, stands-tree, head-lies, head-most, each-lies, each-stands, each-below, function-mark}
 use Rattle.named.specs.Combinators.{iden}
 use Rattle.named.specs.Draws.{Draws}
@@ -32,12 +32,27 @@ called-row x a h (suc m) = ap (morePats (name (x h))) (called-row x a (h + 2) m)
 
 -- a record's pattern by its mark
 module _ {b i : List ℕ} {p : ℕ} (s : Stands b i p PATTERN) where
-  finds-name : (x : ℕ) → mark b i p ≡ PI → find x (patternOf b i p) ≡ find x (name (field b i p 0))
+  pub finds-name : (x : ℕ) → mark b i p ≡ PI → find x (patternOf b i p) ≡ find x (name (field b i p 0))
   unfolding asPattern
   finds-name x e = ap (λ t. find x (asPattern t)) (stands-tree s PI e)
 
   pub name-lies : (m : ℕ) → m ≡ mark b i p → m ≡ PI → Lies b i p 0
   name-lies m is e = head-lies s PI (sym is ∙ e) 0 tt
+
+  -- what is neither a row nor a name ignores
+  pub ignores : (mark b i p ≡ PT → ⊥) → (mark b i p ≡ PI → ⊥) → mark b i p ≡ PN
+  ignores row one =
+      let t : T (pick (eqb (mark b i p) PT) true (pick (eqb (mark b i p) PI) true (eqb (mark b i p) PN))) = stands-mark s (λ m. pick (eqb m PT) true (pick (eqb m PI) true (eqb m PN))) tt tt in
+      eqb→eq (mark b i p) PN (rw (ne-eqb (mark b i p) PT row, ne-eqb (mark b i p) PI one) at t)
+
+  -- what is the same for every name and where nothing is named, is so of every pattern but a row
+  pub but-row : {A : Type 0} (f : Pat → A) (a : A) → ((x : ℕ) → f (name x) ≡ a) → f ignore ≡ a → (mark b i p ≡ PT → ⊥) → f (patternOf b i p) ≡ a
+  unfolding asPattern
+  but-row f a named blank row = go (eqb (mark b i p) PI) refl
+    where
+      go : (t : Bool) → eqb (mark b i p) PI ≡ t → f (patternOf b i p) ≡ a
+      go true e = ap (λ u. f (asPattern u)) (stands-tree s PI (eqb-true (mark b i p) PI e)) ∙ named (field b i p 0)
+      go false e = ap (λ u. f (asPattern u)) (stands-tree s PN (ignores row (eqb-false (mark b i p) PI e))) ∙ blank
 
   pub finds-row : (x n : ℕ) → mark b i p ≡ PT → n ≡ field b i p 0 → find x (patternOf b i p) ≡ left x 1 (λ j. patternOf b i (field b i p j)) 1 n 0
   unfolding asPattern
@@ -57,11 +72,9 @@ module _ {b i : List ℕ} {p : ℕ} (s : Stands b i p PATTERN) where
   pub row-most : (n : ℕ) → mark b i p ≡ PT → n ≡ field b i p 0 → n ≤ 256
   row-most n e z = rw z (head-most s PT e 0 tt refl)
 
-  finds-none : (x : ℕ) → (mark b i p ≡ PT → ⊥) → (mark b i p ≡ PI → ⊥) → find x (patternOf b i p) ≡ none
+  pub finds-none : (x : ℕ) → (mark b i p ≡ PT → ⊥) → (mark b i p ≡ PI → ⊥) → find x (patternOf b i p) ≡ none
   unfolding asPattern find
-  finds-none x row one =
-      let t : T (pick (eqb (mark b i p) PT) true (pick (eqb (mark b i p) PI) true (eqb (mark b i p) PN))) = stands-mark s (λ m. pick (eqb m PT) true (pick (eqb m PI) true (eqb m PN))) tt tt in
-      ap (λ u. find x (asPattern u)) (stands-tree s PN (eqb→eq (mark b i p) PN (rw (ne-eqb (mark b i p) PT row, ne-eqb (mark b i p) PI one) at t)))
+  finds-none x row one = ap (λ u. find x (asPattern u)) (stands-tree s PN (ignores row one))
 
   -- so a search in it that enters no row: the name is found, or is missing
   module _ (m : ℕ) (is : m ≡ mark b i p) {x : ℕ} {ms : List ℕ} (v : Memo b i x ms) {r : ℕ} {t : List ℕ} {pen : Pen} where

@@ -1,5 +1,3 @@
 pub mod Shapes
 pub mod Views
 pub mod Wholes
-pub mod Binders
-pub mod Memos

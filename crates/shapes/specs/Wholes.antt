@@ -4,7 +4,7 @@ use Prim.Native.Nat.{ℕ, _+_, _*_, _-_, _≤_, _<_}
 use mathlib.Core.Bool.{Bool, true, false}
 use mathlib.Core.List.{List, [], _∷_}
 use mathlib.Core.Path.{_≡_}
-use Rattle.laws.specs.Table.{both, below, Case, at, choose}
+use Rattle.laws.specs.Table.{both, at, choose}
 use Rattle.array.specs.Path.{onLeft, onRight}
 use Rattle.simplicity.specs.Types.{Ty, one, product, two, same}
 use Rattle.book.specs.Format.{TYPE, EXPRESSION, FUNCTION, VU, VL, VR, VP}

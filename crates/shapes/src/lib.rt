@@ -1,4 +1,3 @@
 // Whether a declared type is the one that the declared types of its parts give.
-pub mod binder;
 pub mod part;
 pub mod whole;

@@ -106,8 +106,7 @@ fn constant(book: &[u8], index: &[u16], r: u16, t: u16) -> bool
     requires { ⌜ Typed (now book) (now index) r EC t ⌝ }
     ensures { λ a. ⌜ a ≡ whole (exprOf (now (book .entry)) (now (index .entry)) r) ⌝ }
 {
-    let v = field_at(book, index, r, 1);
-    field_at(book, index, v, 0) == t
+    value_type(book, index, r, 1) == t
 }
 
 // A tuple: the row of its parts.
@@ -123,6 +122,7 @@ fn list(book: &[u8], index: &[u16], r: u16, t: u16) -> bool
     requires { ⌜ Typed (now book) (now index) r EL t ⌝ }
     ensures { λ a. ⌜ a ≡ whole (exprOf (now (book .entry)) (now (index .entry)) r) ⌝ }
 {
+    let span = span_of(book, index, r, EL);
     let bound = field_at(book, index, r, 1) as u32;
     let element = element_of(book, index, t, bound);
     if element == NONE {
@@ -131,12 +131,12 @@ fn list(book: &[u8], index: &[u16], r: u16, t: u16) -> bool
     if !is_list(book, index, t, bound, element) {
         return false;
     }
-    are_all(book, index, element, r, span_of(book, index, r, EL))
+    are_all(book, index, element, r, span)
 }
 
 // Left or right of a part: the side k of the declared type is the part's.
-fn injection(book: &[u8], index: &[u16], r: u16, m: u8, t: u16, k: usize) -> bool
-    requires { ⌜ Typed (now book) (now index) r m t ⌝ ∗ ⌜ (m ≡ E0 + k) × (k < 2) ⌝ }
+fn injection(book: &[u8], index: &[u16], r: u16, t: u16, k: usize) -> bool
+    requires { ⌜ Typed (now book) (now index) r (E0 + k) t ⌝ ∗ ⌜ k < 2 ⌝ }
     ensures { λ a. ⌜ a ≡ whole (exprOf (now (book .entry)) (now (index .entry)) r) ⌝ }
 {
     side(book, index, TS, t, k) == part_type(book, index, r, 1)
@@ -147,6 +147,7 @@ fn variant(book: &[u8], index: &[u16], r: u16, t: u16) -> bool
     requires { ⌜ Typed (now book) (now index) r EN t ⌝ }
     ensures { λ a. ⌜ a ≡ whole (exprOf (now (book .entry)) (now (index .entry)) r) ⌝ }
 {
+    let span = span_of(book, index, r, EN);
     let n = field_at(book, index, r, 2) as u32;
     if !has_places(book, index, t, n) {
         return false;
@@ -155,7 +156,7 @@ fn variant(book: &[u8], index: &[u16], r: u16, t: u16) -> bool
     if payload == NONE {
         return false;
     }
-    is_row(book, index, payload, r, span_of(book, index, r, EN))
+    is_row(book, index, payload, r, span)
 }
 
 // A block: its end's type, or unit where there is none.
@@ -234,20 +235,21 @@ fn jet(book: &[u8], index: &[u16], r: u16, t: u16) -> bool
     requires { ⌜ Typed (now book) (now index) r CJ t ⌝ }
     ensures { λ a. ⌜ a ≡ whole (exprOf (now (book .entry)) (now (index .entry)) r) ⌝ }
 {
+    let span = span_of(book, index, r, CJ);
     let jet = jet_at(field_at(book, index, r, 2) as usize);
     if field_at(book, index, r, 3) != jet.arguments {
         return false;
     }
     let bits = (jet.input / jet.arguments) as u32;
-    if !are_words(book, index, r, span_of(book, index, r, CJ), bits) {
+    if !are_words(book, index, r, span, bits) {
         return false;
     }
     is_result(book, index, t, jet.output as u32)
 }
 
 // An unwrapped part: the side k of its type is the declared one.
-fn unwrap(book: &[u8], index: &[u16], r: u16, m: u8, t: u16, k: usize) -> bool
-    requires { ⌜ Typed (now book) (now index) r m t ⌝ ∗ ⌜ (m ≡ CL + k) × (k < 2) ⌝ }
+fn unwrap(book: &[u8], index: &[u16], r: u16, t: u16, k: usize) -> bool
+    requires { ⌜ Typed (now book) (now index) r (CL + k) t ⌝ ∗ ⌜ k < 2 ⌝ }
     ensures { λ a. ⌜ a ≡ whole (exprOf (now (book .entry)) (now (index .entry)) r) ⌝ }
 {
     let part = part_type(book, index, r, 2);
@@ -322,7 +324,7 @@ fn call(book: &[u8], index: &[u16], r: u16, t: u16) -> bool
     if !are_taken(book, index, r, f, n as usize) {
         return false;
     }
-    field_at(book, index, f, 0) == t
+    t == field_at(book, index, f, 0)
 }
 
 // Whether a fold over e from a is of type t: its function takes an element and the accumulator and gives the accumulator.
@@ -384,16 +386,19 @@ fn for_while(book: &[u8], index: &[u16], r: u16, t: u16) -> bool
         return false;
     }
     let width = field_at(book, index, r, 2) as u32;
-    if !is_word(book, index, field_at(book, index, f, 7), width) {
+    let accumulator = field_at(book, index, f, 3);
+    let context = field_at(book, index, f, 5);
+    let counter = field_at(book, index, f, 7);
+    if !is_word(book, index, counter, width) {
         return false;
     }
-    if part_type(book, index, r, 3) != field_at(book, index, f, 3) {
+    if part_type(book, index, r, 3) != accumulator {
         return false;
     }
-    if part_type(book, index, r, 4) != field_at(book, index, f, 5) {
+    if part_type(book, index, r, 4) != context {
         return false;
     }
-    if side(book, index, TS, t, 1) != field_at(book, index, f, 3) {
+    if side(book, index, TS, t, 1) != accumulator {
         return false;
     }
     field_at(book, index, f, 0) == t
@@ -435,8 +440,8 @@ fn call_agrees(book: &[u8], index: &[u16], r: u16, m: u8, t: u16) -> bool
 {
     match m {
         CJ => jet(book, index, r, t),
-        CL => unwrap(book, index, r, m, t, 0),
-        CR => unwrap(book, index, r, m, t, 1),
+        CL => unwrap(book, index, r, t, 0),
+        CR => unwrap(book, index, r, t, 1),
         CD => debug(book, index, r, t),
         CA => assert(book, index, r, t),
         CN => is_none(book, index, r, t),
@@ -463,8 +468,8 @@ pub fn agrees(book: &[u8], index: &[u16], r: u16, m: u8) -> bool
         EC => constant(book, index, r, t),
         ET => tuple(book, index, r, t),
         EL => list(book, index, r, t),
-        E0 => injection(book, index, r, m, t, 0),
-        E1 => injection(book, index, r, m, t, 1),
+        E0 => injection(book, index, r, t, 0),
+        E1 => injection(book, index, r, t, 1),
         EN => variant(book, index, r, t),
         EB => block(book, index, r, t),
         EM => two_arms(book, index, r, t),

@@ -11,7 +11,7 @@ use Rattle.book.specs.declared.fault.Fault.{Fault}
 use Rattle.book.specs.declared.fault.Fault.the-variants as faults
 use Rattle.book.specs.Tree.{Pat, Expr, constant, witness, variable, tuple, list, inLeft, inRight, variant, block, match, matchEnum, jet, unwrapLeft, unwrapRight, debug, assert, panic, isNone, cast, call, listFold, arrayFold, forWhile, hash, noExpr, Exprs, noExprs, moreExprs, Arms, noArms, moreArms, Parts, noParts, moreParts, Stmts, assign, does, end, noEnd, Fun, fun}
 use Rattle.shapes.specs.Shapes.{typeIs, sums, placeOf, hasPlaces, whole}
-use Rattle.shapes.specs.Binders.{fits, names, paramNames, twice, Binding, binding, scopeIn, typeFor}
+use Rattle.binders.specs.Binders.{fits, names, paramNames, twice, Binding, binding, scopeIn, typeFor}
 use Rattle.typing.specs.declared.cycle.Checked.{Checked}
 use Rattle.typing.specs.declared.cycle.Checked.the-variants.{Passed, Refused}
 

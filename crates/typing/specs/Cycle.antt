@@ -15,8 +15,8 @@ use Rattle.book.specs.Valid.{Valid}
 use Rattle.book.specs.Tree.{Stmts, stmtsAt, group, tree, typeOf, patternOf, exprOf}
 use Rattle.parts.specs.Parts.{spanAt}
 use Rattle.shapes.specs.Shapes.{typeIs, hasPlaces}
-use Rattle.shapes.specs.Binders.{names, twice, Binding, binding}
-use Rattle.shapes.specs.Memos.{Known, Live, scopeOf}
+use Rattle.binders.specs.Binders.{names, twice, Binding, binding}
+use Rattle.binders.specs.Memos.{Known, Live, scopeOf}
 use Rattle.typing.specs.Check.{andThen, agree, binds, variantType, check, statements}
 use Rattle.typing.specs.declared.cycle.Checked.{Checked}
 use Rattle.typing.specs.declared.cycle.Checked.the-variants.{Passed, Refused}

@@ -10,7 +10,7 @@ use Rattle.book.specs.Read.{readOf, indexOf}
 use Rattle.book.specs.Tree.{exprOf, funOf}
 use Rattle.book.specs.declared.fault.ReadAnswer.the-variants as reads
 use Rattle.shapes.specs.Wholes.{valueAgrees}
-use Rattle.shapes.specs.Binders.{rootScope}
+use Rattle.binders.specs.Binders.{rootScope}
 use Rattle.typing.specs.Check.{andThen, agree, check, checkFun}
 use Rattle.typing.specs.declared.CheckAnswer.{CheckAnswer}
 use Rattle.typing.specs.declared.CheckAnswer.the-variants as answers

@@ -3,7 +3,7 @@ ghost use mathlib.Core.Path.{_≡_};
 ghost use Prim.Native.Nat.{_-_};
 ghost use Rattle.book.specs.Tree.{exprOf};
 ghost use Rattle.book.specs.Valid.{Valid, Tiles};
-ghost use Rattle.shapes.specs.Binders.{rootScope};
+ghost use Rattle.binders.specs.Binders.{rootScope};
 ghost use Rattle.typing.specs.Check.{andThen, check};
 ghost use Rattle.typing.specs.Cycle.{Among, Rows, Stays};
 ghost use Rattle.typing.specs.Whole.{inOrder, valueAt, functionAt, checking, checkOf};
@@ -18,7 +18,7 @@ use book::format::VALUE;
 use book::format::kind_of;
 use book::read::index_book;
 use book::record::mark_at;
-use shapes::binder::doubles;
+use binders::doubles;
 use shapes::part::NONE;
 use shapes::whole::value_agrees;
 

@@ -1,6 +1,9 @@
 // Patterns beside types. Patterns share their parts, so that a pattern may have more places than could ever be visited: no record is
 // entered again for what is known of it.
+ghost use mathlib.Core.List.{[], _∷_};
 ghost use mathlib.Core.Path.{_≡_};
+ghost use mathlib.Core.Bool.{false};
+ghost use mathlib.Core.Option.{none};
 ghost use Prim.Native.Nat.{_<_, _≤_};
 ghost use lib.ListN.{length, replicate};
 ghost use Rattle.book.specs.Format.{TYPE, PATTERN, FUNCTION, PT};
@@ -8,20 +11,20 @@ ghost use Rattle.book.specs.Index.{mark};
 ghost use Rattle.book.specs.Stands.{Stands};
 ghost use Rattle.book.specs.Valid.{Valid};
 ghost use Rattle.book.specs.Tree.{typeOf, patternOf, funOf};
-ghost use Rattle.pattern.specs.Find.{paramsOf};
+ghost use Rattle.pattern.specs.Find.{find, paramsOf};
 ghost use Rattle.pattern.specs.Seeks.{Memo};
 ghost use Rattle.shapes.specs.Views.{Gives};
-ghost use Rattle.shapes.specs.Binders.{fits, names, paramNames, twice, typeFor, scopeIn};
-ghost use Rattle.shapes.specs.Memos.{powerOf, marked, Known, Marks, Fitted, Sights, Met, Nameless, Notes, Tallies, Doubled, Binds, scopeOf, Live, Newest};
-use crate::part::NONE;
-use crate::part::is_unit;
-use crate::part::place;
+ghost use Rattle.binders.specs.Binders.{fits, names, paramNames, twice, typeFor, scopeIn};
+ghost use Rattle.binders.specs.Memos.{powerOf, marked, Known, Marks, Fitted, Sights, Met, Nameless, Notes, Tallies, Doubled, Binds, scopeOf, Live, Newest};
 use book::format::PI;
 use book::format::PT;
 use book::format::TP;
 use book::record::field_at;
 use book::record::mark_at;
 use named::table::clear;
+use shapes::part::NONE;
+use shapes::part::is_unit;
+use shapes::part::place;
 
 const POWERS: [u8; 8] = [1, 2, 4, 8, 16, 32, 64, 128];
 
@@ -105,7 +108,7 @@ pub enum Noted {
 
 fn note(name: u16, met: &mut [u8]) -> Noted
     requires { ⌜ Met (now met) ⌝ }
-    ensures { λ s. ⌜ Notes name (now (met .entry)) s (now (met .exit)) ⌝ }
+    ensures { λ s. ⌜ Notes (name ∷ []) (now (met .entry)) s (now (met .exit)) ⌝ }
 {
     if met[name as usize] == 1 {
         return Noted::Twice;
@@ -163,13 +166,12 @@ fn note_row(book: &[u8], index: &[u16], p: u16, met: &mut [u8], nameless: &mut [
 }
 
 // Whether a pattern has a name twice.
-pub fn repeats(book: &[u8], index: &[u16], p: u16) -> bool
-    requires { ⌜ Stands (now book) (now index) p PATTERN ⌝ }
-    ensures { λ r. ⌜ r ≡ twice (names (patternOf (now (book .entry)) (now (index .entry)) p)) ⌝ }
+fn repeats(book: &[u8], index: &[u16], p: u16, nameless: &mut [u8]) -> bool
+    requires { ⌜ Stands (now book) (now index) p PATTERN ⌝ ∗ ⌜ Nameless (now book) (now index) (now nameless) ⌝ }
+    ensures { λ r. ⌜ (r ≡ twice (names (patternOf (now (book .entry)) (now (index .entry)) p))) × Nameless (now (book .entry)) (now (index .entry)) (now (nameless .exit)) ⌝ }
 {
     let mut met = [0u8; 65536];
-    let mut nameless = [0u8; 4096];
-    match note_all(book, index, p, &mut met, &mut nameless) {
+    match note_all(book, index, p, &mut met, nameless) {
         Noted::Twice => true,
         Noted::Named => false,
         Noted::Unnamed => false,
@@ -177,15 +179,16 @@ pub fn repeats(book: &[u8], index: &[u16], p: u16) -> bool
 }
 
 // Marks each of the first n records that is a pattern with a name twice. It is worked out before patterns are bound, so that no row of
-// names stands in a recursion.
+// names stands in a recursion. What is found to have no names is known to all patterns.
 pub fn doubles(book: &[u8], index: &[u16], n: u16, doubled: &mut [u8])
     requires { ⌜ Valid (now book) (now index) n ⌝ ∗ ⌜ now doubled ≡ replicate 4096 0 ⌝ }
     ensures { λ _. ⌜ Doubled (now (book .entry)) (now (index .entry)) n (now (doubled .exit)) ⌝ }
 {
+    let mut nameless = [0u8; 4096];
     let mut r: u16 = 0;
     while r < n {
         if mark_at(book, index, r) == PT {
-            if repeats(book, index, r) {
+            if repeats(book, index, r, &mut nameless) {
                 doubled[r as usize] = 1;
             }
         }
@@ -236,6 +239,22 @@ fn type_in(book: &[u8], index: &[u16], p: u16, t: u16, name: u16, missing: &mut 
     NONE
 }
 
+// Whether a pattern may have a name: it is that name, or a row in which it was not sought in vain. Most elements of a wide row are
+// passed so, without the way down to their type.
+fn may_have(book: &[u8], index: &[u16], p: u16, name: u16, missing: &[u8]) -> bool
+    requires { ⌜ Stands (now book) (now index) p PATTERN ⌝ ∗ ⌜ Memo (now book) (now index) name (now missing) ⌝ }
+    ensures { λ r. ⌜ (r ≡ false → find name (patternOf (now (book .entry)) (now (index .entry)) p) ≡ none) ⌝ }
+{
+    if missing[p as usize] == 1 {
+        return false;
+    }
+    let mark = mark_at(book, index, p);
+    if mark == PI {
+        return field_at(book, index, p, 0) == name;
+    }
+    mark == PT
+}
+
 // The same for a row: its elements one after another, each with the type at its place.
 fn type_in_row(book: &[u8], index: &[u16], p: u16, t: u16, name: u16, missing: &mut [u8]) -> u16
     requires { ⌜ Binds (now book) (now index) p t ⌝ ∗ ⌜ mark (now book) (now index) p ≡ PT ⌝ ∗ ⌜ Memo (now book) (now index) name (now missing) ⌝ }
@@ -245,6 +264,10 @@ fn type_in_row(book: &[u8], index: &[u16], p: u16, t: u16, name: u16, missing: &
     let mut k: u32 = 0;
     while k < n {
         let part = field_at(book, index, p, 1 + (k as usize));
+        if !may_have(book, index, part, name, missing) {
+            k += 1;
+            continue;
+        }
         let s = place(book, index, TP, t, n, k);
         let found = type_in(book, index, part, s, name, missing);
         if found != NONE {

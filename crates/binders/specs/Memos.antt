@@ -1,10 +1,10 @@
 -- What the code holds of patterns beside types: the pairs that are known to fit, the names that were met, the row of live bindings.
 -- Assumes nothing.
 use Prim.Native.Nat.{ℕ, zero, suc, _+_, _*_, _/_, _%_, _≤_, _<_}
-use mathlib.Core.Bool.{Bool, true, false}
+use mathlib.Core.Bool.{Bool, true}
 use mathlib.Core.List.{List, [], _∷_}
 use mathlib.Core.Logic.{_⊎_}
-use mathlib.Core.Option.{Option, some, none}
+use mathlib.Core.Option.{some, none}
 use mathlib.Core.Path.{_≡_}
 use lib.Dec.{eqb}
 use lib.ListN.{length, getD}
@@ -17,11 +17,11 @@ use Rattle.book.specs.Stands.{Stands}
 use Rattle.book.specs.Tree.{Pat, typeOf, patternOf, funOf}
 use Rattle.pattern.specs.Find.{find}
 use Rattle.pattern.specs.Seeks.{Memo}
 use Rattle.shapes.specs.Shapes.{products, leads}
 use Rattle.shapes.specs.Views.{NONE}
-use Rattle.shapes.specs.Binders.{fits, names, twice, Binding, binding, rootScope, scopeIn, typeFor}
-use Rattle.shapes.specs.declared.binder.Noted.{Noted}
-use Rattle.shapes.specs.declared.binder.Noted.the-variants as notes
+use Rattle.binders.specs.Binders.{fits, names, twice, Binding, binding, rootScope, scopeIn, typeFor}
+use Rattle.binders.specs.declared.Noted.{Noted}
+use Rattle.binders.specs.declared.Noted.the-variants as notes
 
 -- 2 ^ j, for j below 8; bit j of a byte; whether the pair of pattern p and type t is marked
 abbrev pub powerOf : ℕ → ℕ
@@ -71,7 +71,7 @@ pub record Nameless (b i ms : List ℕ) : Type 0 where
 -- how often x stands in a row of names
 unfoldable pub times : ℕ → List ℕ → ℕ
 times x [] = 0
-times x (y ∷ ys) = pick (eqb y x) 1 0 + times x ys
+times x (y ∷ ys) = pick (eqb x y) 1 0 + times x ys
 
 -- the names xs were met on top of those of ns: one stands there twice, or none does, and ns′ has them all
 unfoldable pub Tally : List ℕ → List ℕ → Noted → List ℕ → Type 0
@@ -79,15 +79,14 @@ Tally xs ns notes.Twice ns′ = (x : ℕ) × (2 ≤ getD ns x 0 + times x xs)
 Tally xs ns notes.Named ns′ = (Met ns′) × ((x : ℕ) → getD ns′ x 0 ≡ getD ns x 0 + times x xs)
 Tally xs ns notes.Unnamed ns′ = (xs ≡ []) × (ns′ ≡ ns)
 
--- one name was met
-pub record Notes (x : ℕ) (ns : List ℕ) (s : Noted) (ns′ : List ℕ) : Type 0 where
+pub record Notes (xs ns : List ℕ) (s : Noted) (ns′ : List ℕ) : Type 0 where
   pub kept : length ns′ ≡ length ns
-  pub tally : Tally (x ∷ []) ns s ns′
-
-pub record Tallies (b i : List ℕ) (xs ns : List ℕ) (s : Noted) (ns′ ms′ : List ℕ) : Type 0 where
-  pub kept : length ns′ ≡ length ns
-  pub nameless : Nameless b i ms′
   pub tally : Tally xs ns s ns′
+
+-- and the row of records without names that this left
+pub record Tallies (b i : List ℕ) (xs ns : List ℕ) (s : Noted) (ns′ ms′ : List ℕ) : Type 0 where
+  pub nameless : Nameless b i ms′
+  pub notes : Notes xs ns s ns′
 
 -- a row that has for each pattern among the first n records whether a name stands in it twice: 1 or 0
 pub record Doubled (b i : List ℕ) (n : ℕ) (ds : List ℕ) : Type 0 where

@@ -1,0 +1,7 @@
+mod Bits
+pub mod Fitting
+mod Names
+mod Tallies
+mod Doubling
+mod Sights
+mod Scopes

@@ -1,0 +1,18 @@
+-- `known` meets its contract: the pair's bit in its byte.
+-- Assumes nothing.
+use Rattle.binders.specs.Memos.{bitOf, marked}
+use borrow.Author.Needs.{needs}
+use Rattle.binders.proofs.known.Statement.{statement}
+use Rattle.binders.proofs.known.Tie as tie
+
+pub known-spec : {M : Type 1} → statement M
+unfolding bitOf marked
+known-spec =
+    tie.close
+    (tie.spec
+    (λ c κs. search needs)
+    (λ c. search needs)
+    (λ c. search needs)
+    (λ c. search needs)
+    (λ c. search needs)
+    (λ c. rw (c .before .power .ensures .0)))

@@ -1,0 +1,2 @@
+pub mod Binders
+pub mod Memos
