@@ -48,7 +48,7 @@ doubling-none b i e = record { size = zero-size 4096 e; done = λ r o. absurd (o
 module _ {b i : List ℕ} {k : ℕ} {ds : List ℕ} (d : Doubling b i k ds) where
   -- all were looked at
   pub doubling-all : {n : ℕ} → n ≤ k → Doubled b i n ds
-  doubling-all h = record { size = d .size; is = λ r o. d .done r (omega arith) }
+  doubling-all h = record { size = d .size; is = λ r o. d .done r (omega arith); beyond = λ r o. d .rest r (omega arith) }
 
   module _ (u : ℕ) (z : u ≡ k + 1) where
     -- the next has no name twice, if it is a pattern

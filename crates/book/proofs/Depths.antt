@@ -33,7 +33,7 @@ module _ (b i : List ℕ) where
       rw e (getD-at (depths b i r) (depth b i r) [] 0 r (length-depths r))
 
   -- each is its record's depth
-  row-depths : (n r : ℕ) → r < n → getD (depths b i n) r 0 ≡ depth b i r
+  pub row-depths : (n r : ℕ) → r < n → getD (depths b i n) r 0 ≡ depth b i r
   row-depths zero r h = absurd (omega arith)
   row-depths (suc n) r h = row-step n r h (row-depths n r) (decLt r n)
 

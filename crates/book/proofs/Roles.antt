@@ -81,7 +81,7 @@ names-kind kd x t =
     rw (e, le-leb kd 6 low)
 
 -- a block's end names an expression unless it is 65535
-names-end : (x : ℕ) → (x ≡ 65535 → ⊥) → names END x ≡ EXPRESSION
+pub names-end : (x : ℕ) → (x ≡ 65535 → ⊥) → names END x ≡ EXPRESSION
 unfolding names
 names-end x h = rw (ne-eqb x 65535 h)
 

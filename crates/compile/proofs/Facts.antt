@@ -4,7 +4,6 @@ use Prim.Native.Nat.{ℕ, _+_, _*_, _-_, _≤_, _<_}
 use mathlib.Core.Bool.{Bool, true, false}
 use mathlib.Core.List.{List, [], _∷_}
 use mathlib.Core.Path.{_≡_, refl, sym, ap, subst, _∙_}
-use native.Mathlib.Nat.{le-trans, mul-le-mul}
 use native.Mathlib.Omega.{arith}
 use borrow.Author.Tests.{eq-eqb, ne-eqb}
 use lib.Dec.{T, eqb, ltb, eqb→eq}
@@ -35,7 +34,7 @@ use Rattle.recipes.specs.Calls as calls
 use Rattle.parts.specs.Joins.{matched, chosen}
 use Rattle.parts.specs.Parts.{Marked, Spanned, rowMarks, isCall, isFunctional, gatherRun, wrapRun, foldRun, plainRun}
 use Rattle.parts.specs.declared.view.Span.{Span}
-use Rattle.parts.proofs.Spans.{span-lies, span-stands, span-below, arm-some, arm-lies, arm-stands}
+use Rattle.parts.proofs.Spans.{span-lies, span-stands, span-below, arm-some, arm-lies, arm-stands, does-mark}
 use Rattle.compile.specs.Lower.{bindingAt, binding, lower, statements, body}
 use Rattle.compile.specs.Cycle.{elementRun, elementsRun, rowRun, bodyRun, callRun, completeRun, secondRun, beginRun, entered, stmtsOf, InSpan, Enters}
 use Rattle.compile.proofs.Shapes.{body-is, match-is, end-none, end-some}
@@ -66,10 +65,6 @@ in-span g t s k h = record {
   before = λ e. arm-lies g e (s .is) k h;
   pattern = λ e. arm-stands g e (s .is) k h;
 }
-
--- a statement's mark
-pub does-mark : {b i : List ℕ} {s : ℕ} → Stands b i s STATEMENT → (mark b i s ≡ SA → ⊥) → mark b i s ≡ SE
-does-mark {b} {i} {s} k e = eqb→eq (mark b i s) SE (rw (ne-eqb (mark b i s) SA e) at (stands-mark k (λ j. pick (eqb j SA) true (eqb j SE)) tt tt))
 
 -- what an assignment binds
 pub head-named : {b i : List ℕ} {s x : ℕ} → Stands b i s STATEMENT → mark b i s ≡ SA → x ≡ field b i s 0 → Stands b i x PATTERN
@@ -284,7 +279,3 @@ module _ (y : Bool) (b i : List ℕ) (r : ℕ) (sc : List Pat) {t t₁ : List �
 -- the scope after a statement that was begun
 pub enters-is : {b i : List ℕ} {s : ℕ} {p o : ScopeBindings} (y : Bool) {t t′ : List ℕ} {c a u : ℕ} {q : Stored} → Enters b i s p o → Done t c (beginRun b i s y (scopeOf b i p)) q t′ → q ≡ answers.Node a u → scopeOf b i o ≡ entered b i s (scopeOf b i p)
 enters-is {b} {i} {s} {p} y n d e = n .is (λ is. by-lt (p .count) 256 (λ h. h) (λ h. absurd (begun-fits b i s y (scopeOf b i p) is d e (rw scope-count h))))
-
--- how far it is to an element
-pub near-most : (s k : ℕ) → s ≤ 2 → k ≤ 256 → s * k ≤ 512
-near-most s k h l = le-trans (mul-le-mul h l) (omega arith)

@@ -1,19 +1,20 @@
 -- Laws of a record's row: each element's field names an earlier expression, each arm of an enum's match has a pattern before it, and a block's fields name earlier statements.
 -- Assumes nothing.
-use Prim.Native.Nat.{ℕ, _+_, _-_, _*_, _<_}
-use mathlib.Core.Bool.{Bool}
+use Prim.Native.Nat.{ℕ, _+_, _-_, _*_, _≤_, _<_}
+use mathlib.Core.Bool.{Bool, true}
 use mathlib.Core.List.{List}
 use mathlib.Core.Path.{_≡_, subst, _∙_}
-use native.Mathlib.Nat.{mul-comm}
+use native.Mathlib.Nat.{le-trans, mul-comm, mul-le-mul}
 use native.Mathlib.Omega.{arith}
+use borrow.Author.Tests.{ne-eqb}
 use lib.Dec.{T, eqb, ltb, eqb→eq}
 use lib.ListN.{getD}
-use Rattle.laws.specs.Table.{both, below, among, all-below, both-left, both-right, _also_, every}
-use Rattle.book.specs.Format.{EXPRESSION, PATTERN, STATEMENT, ET, EL, E0, E1, EN, EB, EH, CJ, CL, CR, CD, CA, CP, CN, CF, CQ, CY, CW, CH}
+use Rattle.laws.specs.Table.{pick, both, below, among, all-below, both-left, both-right, _also_, every}
+use Rattle.book.specs.Format.{EXPRESSION, PATTERN, STATEMENT, ET, EL, E0, E1, EN, EB, SA, SE, EH, CJ, CL, CR, CD, CA, CP, CN, CF, CQ, CY, CW, CH}
 use Rattle.book.specs.Index.{mark, field, Lies}
 use Rattle.book.specs.Stands.{Stands}
 use Rattle.book.proofs.Roles.{Field, layout, counted, head-field, each-field}
-use Rattle.book.proofs.Standing.{field-in, field-stands, field-below}
+use Rattle.book.proofs.Standing.{stands-mark, field-in, field-stands, field-below}
 use Rattle.parts.specs.Parts.{Marked, Stated, rowMarks, span, spanAt}
 use Rattle.parts.specs.declared.view.Span.{Span}
 
@@ -106,7 +107,7 @@ module _ {b i : List ℕ} {r m : ℕ} (g : Marked b i r m) (is : m ≡ EH) {p : 
 
 -- statement k of a block
 module _ {b i : List ℕ} {r : ℕ} (g : Marked b i r EB) (k : ℕ) (h : k < field b i r 1) where
-  stmt-field : Field b i r (2 + k) STATEMENT
+  pub stmt-field : Field b i r (2 + k) STATEMENT
   stmt-field = each-field b i r EB (g .is) (2 + k) k 0 (omega arith) h tt
 
   pub stmt-lies : Lies b i r (2 + k)
@@ -117,3 +118,11 @@ module _ {b i : List ℕ} {r : ℕ} (g : Marked b i r EB) (k : ℕ) (h : k < fie
 
   pub stmt-below : field b i r (2 + k) < r
   stmt-below = field-below (g .stands) stmt-field tt
+
+-- a statement's mark
+pub does-mark : {b i : List ℕ} {s : ℕ} → Stands b i s STATEMENT → (mark b i s ≡ SA → ⊥) → mark b i s ≡ SE
+does-mark {b} {i} {s} k e = eqb→eq (mark b i s) SE (rw (ne-eqb (mark b i s) SA e) at (stands-mark k (λ j. pick (eqb j SA) true (eqb j SE)) tt tt))
+
+-- how far it is to an element
+pub near-most : (s k : ℕ) → s ≤ 2 → k ≤ 256 → s * k ≤ 512
+near-most s k h l = le-trans (mul-le-mul h l) (omega arith)

@@ -1,3 +1,4 @@
 pub mod Check
 pub mod Cycle
 pub mod Whole
+pub mod Typed

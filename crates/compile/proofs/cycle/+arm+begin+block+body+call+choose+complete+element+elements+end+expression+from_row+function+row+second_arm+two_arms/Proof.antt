@@ -14,12 +14,12 @@ use Rattle.scope_bindings.specs.Scope.{scopeOf, ScopeStands, ofFunction}
 use Rattle.scope_bindings.proofs.Scopes.{scope-count, root-stands}
 use Rattle.parts.specs.declared.view.Span.{Span}
 use Rattle.parts.proofs.Marks.{lies, most, at-mark}
-use Rattle.parts.proofs.Spans.{stmt-lies, stmt-stands, stmt-below}
+use Rattle.parts.proofs.Spans.{stmt-lies, stmt-stands, stmt-below, does-mark, near-most}
 use Rattle.compile.specs.Cycle.{callRun}
 use Rattle.compile.proofs.Shapes.{otherMarks, row-is, row-else, cast-is, constant-is, witness-is, variable-is, block-is}
 use Rattle.compile.proofs.Steps.{Suffices, suffices-start, suffices-next, suffices-halt, suffices-done}
 use Rattle.compile.proofs.Blocks.{Begun, begun-start, begun-next, begun-halt, begun-end, begun-end-halt}
-use Rattle.compile.proofs.Facts.{head-is, head-less, in-span, does-mark, does-stands, does-below, value-stands, value-below, inner-stands, arm-done, arm-full, fn-lies, fn-stands, fn-less, fn-done, end-lies, end-is, end-less, begin-does, begin-assign, begin-halt, element-plain, element-arm, functional-lies, functional-stands, functional-below, body-plain, body-fold, body-halt, choose-then, choose-halt, complete-call, complete-wrap, lies-after, arm-names, arm-body, arm-less, marked-as, marked, end-unit, end-expr, row-then, row-halt, second-is, arms-is, enters-is, near-most}
+use Rattle.compile.proofs.Facts.{head-is, head-less, in-span, does-stands, does-below, value-stands, value-below, inner-stands, arm-done, arm-full, fn-lies, fn-stands, fn-less, fn-done, end-lies, end-is, end-less, begin-does, begin-assign, begin-halt, element-plain, element-arm, functional-lies, functional-stands, functional-below, body-plain, body-fold, body-halt, choose-then, choose-halt, complete-call, complete-wrap, lies-after, arm-names, arm-body, arm-less, marked-as, marked, end-unit, end-expr, row-then, row-halt, second-is, arms-is, enters-is}
 use borrow.Author.Needs.{needs}
 use Prim.Native.Nat.{ℕ, _<_}
 use borrow.Fn.Kinds.{In}

@@ -1,0 +1,13 @@
+mod Deepening
+mod Depths
+mod Earlier
+pub mod Exactly
+mod Facts
+mod Judging
+mod Leaves
+mod Marks
+mod Orders
+mod Passing
+mod Scopes
+mod Steps
+pub mod Values
