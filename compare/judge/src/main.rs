@@ -29,11 +29,16 @@ use model::book;
 use model::check::check;
 use service::{Service, Start};
 
-/// Where the stored answers and READ's vectors are, from this crate.
+/// Where the stored answers and the vectors of READ and CHECK are, from this
+/// crate.
 const ANSWERS: &str = concat!(env!("CARGO_MANIFEST_DIR"), "/../answers");
-const VECTORS: &str = concat!(
+const READS: &str = concat!(
     env!("CARGO_MANIFEST_DIR"),
     "/../../crates/read_vectors/stdin"
+);
+const CHECKS: &str = concat!(
+    env!("CARGO_MANIFEST_DIR"),
+    "/../../crates/check_vectors/stdin"
 );
 
 /// A comparison of fewer books or tables, or with fewer failures, shows too
@@ -270,8 +275,11 @@ fn replay() -> Result<(), String> {
     say(&format!(
         "the model gives the original's {answers} stored answers"
     ));
-    let vectors = vectors::replay(&read(VECTORS)?)?;
-    say(&format!("the model's READ gives {vectors} stored vectors"));
+    let reads = vectors::replay(&read(READS)?, vectors::read)?;
+    let checks = vectors::replay(&read(CHECKS)?, check)?;
+    say(&format!(
+        "the model's READ gives {reads} stored vectors, its CHECK {checks}"
+    ));
     Ok(())
 }
 
