@@ -322,10 +322,17 @@ fn store() -> Result<(), String> {
     std::fs::write(ANSWERS, answers::write()).map_err(|error| format!("{ANSWERS}: {error}"))
 }
 
-fn write_vectors(some: usize) -> Result<(), String> {
+fn write(vectors: &[u8]) -> Result<(), String> {
     let mut out = std::io::stdout();
-    out.write_all(&vectors::write(some))
-        .map_err(|error| error.to_string())
+    out.write_all(vectors).map_err(|error| error.to_string())
+}
+
+fn write_reads(some: usize) -> Result<(), String> {
+    write(&vectors::write(vectors::reads(some), vectors::read))
+}
+
+fn write_checks(some: usize) -> Result<(), String> {
+    write(&vectors::write(vectors::checks(some), check))
 }
 
 fn main() -> ExitCode {
@@ -339,7 +346,8 @@ fn main() -> ExitCode {
         ["gate", ref paths @ ..] => judge(paths, 4_000),
         ["nightly", some] => number(some).and_then(|some| judge(&[], some)),
         ["store"] => store(),
-        ["vectors", some] => number(some).and_then(write_vectors),
+        ["reads", some] => number(some).and_then(write_reads),
+        ["checks", some] => number(some).and_then(write_checks),
         ["library", some, service, lowerbook, ref under @ ..] => {
             let start = Start { under };
             number(some).and_then(|some| {
@@ -348,7 +356,7 @@ fn main() -> ExitCode {
                 compare_listings(LISTINGS, lowerbook, &start)
             })
         }
-        _ => Err("usage: judge gate [FILE]... | nightly COUNT | store | vectors COUNT | library COUNT SERVICE LOWERBOOK [WORD]...".to_string()),
+        _ => Err("usage: judge gate [FILE]... | nightly COUNT | store | reads COUNT | checks COUNT | library COUNT SERVICE LOWERBOOK [WORD]...".to_string()),
     };
     match done {
         Ok(()) => ExitCode::SUCCESS,

@@ -1,10 +1,10 @@
 //! READ's and CHECK's vectors: those that the project keeps, and new ones for
-//! READ's program.
+//! their programs.
 //!
 //! A vector: number (1 byte), place (2), count (2), length of the book (3), the
 //! book; low byte first.
 
-use gen::{damage, hostile, scoped, typed, Case};
+use gen::{damage, hostile, scoped, systematic, typed, Case};
 use model::{book, Refusal};
 
 /// Number, place and count of the model's answer, which is how many records
@@ -58,13 +58,34 @@ pub fn damaged(seed: u64) -> Case {
     }
 }
 
-/// The model's answers to `count` damaged books and to every hostile one.
-pub fn write(count: usize) -> Vec<u8> {
+/// READ's books: every hostile one, and `count` damaged ones.
+pub fn reads(count: usize) -> Vec<Case> {
     let mut cases = hostile::all();
     cases.extend((0..count as u64).map(damaged));
+    cases
+}
+
+/// CHECK's books: every hostile and systematic one, and `count` each of typed
+/// ones, of typed and scoped ones with fields moved, and of struck ones.
+pub fn checks(count: usize) -> Vec<Case> {
+    let mut cases = [hostile::all(), systematic::all()].concat();
+    for seed in 0..count as u64 {
+        let (typed, scoped) = (typed::book(seed), scoped::book(seed));
+        cases.extend([
+            damage::moved(&typed, seed),
+            damage::moved(&scoped, seed),
+            damage::struck(&typed, seed),
+            typed,
+        ]);
+    }
+    cases
+}
+
+/// The vectors of what a call of the model answers to the books.
+pub fn write(cases: Vec<Case>, call: impl Fn(&[u8]) -> Result<usize, Refusal>) -> Vec<u8> {
     let mut vectors = Vec::new();
     for case in cases {
-        let (number, place, records) = answer(read(&case.book));
+        let (number, place, records) = answer(call(&case.book));
         vectors.push(number);
         vectors.extend(place.to_le_bytes());
         vectors.extend(records.to_le_bytes());
