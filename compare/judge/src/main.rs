@@ -3,7 +3,8 @@
 //!     judge gate [FILE]...    a few thousand books of each sort, and these
 //!     judge nightly COUNT     COUNT books of each sort
 //!     judge store             writes the original's answers to a sample
-//!     judge vectors COUNT     writes READ's vectors to standard output
+//!     judge reads COUNT       writes vectors for READ to standard output
+//!     judge checks COUNT      and for CHECK, of COUNT books of each sort
 //!     judge library COUNT SERVICE LOWERBOOK [WORD]...
 //!                             LOWER and RUN in Rattle on COUNT books or more
 //!                             of each sort, through the program of
