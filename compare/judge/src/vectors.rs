@@ -66,16 +66,19 @@ pub fn reads(count: usize) -> Vec<Case> {
 }
 
 /// CHECK's books: every hostile and systematic one, and `count` each of typed
-/// ones, of typed and scoped ones with fields moved, and of struck ones.
+/// and scoped ones, of both with fields moved, the typed ones twice, and of
+/// struck ones.
 pub fn checks(count: usize) -> Vec<Case> {
     let mut cases = [hostile::all(), systematic::all()].concat();
     for seed in 0..count as u64 {
         let (typed, scoped) = (typed::book(seed), scoped::book(seed));
         cases.extend([
-            damage::moved(&typed, seed),
+            damage::moved(&typed, 2 * seed),
+            damage::moved(&typed, 2 * seed + 1),
             damage::moved(&scoped, seed),
             damage::struck(&typed, seed),
             typed,
+            scoped,
         ]);
     }
     cases
