@@ -6,8 +6,8 @@
 //!     judge reads COUNT       writes vectors for READ to standard output
 //!     judge checks COUNT      and for CHECK, of COUNT books of each sort
 //!     judge library COUNT SERVICE LOWERBOOK [WORD]...
-//!                             LOWER and RUN in Rattle on COUNT books or more
-//!                             of each sort, through the program of
+//!                             all calls in Rattle on COUNT books or more of
+//!                             each sort, through the program of
 //!                             `compare/library`, and `lowerbook` on some; what
 //!                             programs are started under comes last
 
@@ -45,6 +45,7 @@ const CHECKS: &str = concat!(
 /// A comparison of fewer books or tables, or with fewer failures, shows too
 /// little.
 const BOOKS: usize = 2_000;
+const CHECKED: usize = 5_000;
 const TABLES: usize = 5_000;
 const FAILURES: usize = 200;
 
@@ -213,6 +214,31 @@ fn each_sort<T: Send>(
     Ok(said)
 }
 
+/// READ and CHECK in Rattle against the model.
+fn compare_checks(some: usize, service: &str, start: &Start) -> Result<(), String> {
+    let service = Service::new(start, service)?;
+    let cases = vectors::checks(some);
+    let case = |number: usize| cases[number].clone();
+    let numbers = each(cases.len(), case, |case| library::judges(&service, case))?;
+    if let Some(number) = [0, 1, 2, 3, 4, 5, 6, 7, 8, 9, 10, 13, 14]
+        .iter()
+        .find(|number| !numbers.contains(number))
+    {
+        return Err(format!("CHECK in Rattle never answers {number}"));
+    }
+    let (calls, spent) = service.calls();
+    say(&format!(
+        "READ and CHECK in Rattle are the model's in {calls} calls on {} books ({} pass, {} refused by 10, {} by 13, {} by 14); a call takes {} microseconds",
+        numbers.len(),
+        count(&numbers, 0),
+        count(&numbers, 10),
+        count(&numbers, 13),
+        count(&numbers, 14),
+        spent.as_micros(),
+    ));
+    enough(numbers.len(), CHECKED, "books compared")
+}
+
 /// LOWER in Rattle against both judges.
 fn compare_library(some: usize, service: &str, start: &Start) -> Result<(), String> {
     let service = Service::new(start, service)?;
@@ -352,6 +378,7 @@ fn main() -> ExitCode {
         ["library", some, service, lowerbook, ref under @ ..] => {
             let start = Start { under };
             number(some).and_then(|some| {
+                compare_checks(some, service, &start)?;
                 compare_library(some, service, &start)?;
                 compare_runs(some, service, &start)?;
                 compare_listings(LISTINGS, lowerbook, &start)
