@@ -4,24 +4,27 @@
     python3 tests/check_vectors.py --write    writes them
     python3 tests/check_vectors.py --list     tells what each vector is
 
-All are written by hand from document 01, "CHECK and the meanings" and the order of its judgement under "Refusals by
+All are written by hand from document 01, "CHECK and the meanings" and the order of judgement under "Refusals by
 number": each rule broken alone, and of two faults the one that comes first.  A case is a line: what CHECK must say, and
 the records after the base.  `ok` is a book that passes, with as many records as it has; else the refusal and the label of
-its place.  compare/ has the model answer them too.
+its place.  The examples of docs/CHECKING.md are among them.  compare/ has the model answer them all.
 
 The file crates/check_vectors/stdin holds for each vector: number (1 byte), place (2), count (2),
 length of the book (3), the book; low byte first.
 """
 
+import os
+import re
 import sys
 
-from vectors import LISTING, book, packed, settle
-from booklib import encode_labelled
+from vectors import LISTING, ROOT, book, packed, settle
+from booklib import encode, encode_labelled
 
 UNDEFINED, TYPE, NAME = 10, 13, 14
 REFUSALS = {"UNDEFINED": UNDEFINED, "TYPE": TYPE, "NAME": NAME}
 
 LEAST_HAND_VECTORS = 150
+LEAST_EXAMPLES = 30
 MOST_STORED_BYTES = 1_000_000
 
 # Words of 2 to 256 bits, the results of the jets, options, enums, lists and tuples.  Patterns x, y and z bind 1, 2 and 3.
@@ -873,6 +876,16 @@ def reads():
     yield "the listing", (0, 0, 9), book(LISTING)
 
 
+def paper():
+    """The examples of docs/CHECKING.md."""
+    with open(os.path.join(ROOT, "docs", "CHECKING.md"), encoding="utf-8") as stream:
+        text = stream.read()
+    rows = re.findall(r"^\| `([^`]*)` \| `(?:checked (\d+)|refused (\d+) at (\d+))` \|", text, re.M)
+    for example, count, number, place in rows:
+        answer = (0, 0, int(count)) if count else (int(number), int(place), 0)
+        yield f"docs/CHECKING.md: {example}", answer, encode(example, "docs/CHECKING.md")
+
+
 def hand_vectors():
     vectors = []
     for text, first in (
@@ -882,7 +895,7 @@ def hand_vectors():
     ):  # fmt: skip
         vectors.extend(cases(text, first))
     for family in (
-        folds, lists, fold_sizes, words, wide_rows, wide_enums, many_bindings, shared_patterns, reads,
+        folds, lists, fold_sizes, words, wide_rows, wide_enums, many_bindings, shared_patterns, reads, paper,
     ):  # fmt: skip
         vectors.extend(family())
     return vectors
@@ -902,6 +915,8 @@ def complaints(vectors, data):
     """What is wrong with the vectors themselves."""
     if len(vectors) < LEAST_HAND_VECTORS:
         yield f"only {len(vectors)} vectors"
+    if len(list(paper())) < LEAST_EXAMPLES:
+        yield "docs/CHECKING.md lacks its examples"
     due = {*range(11), TYPE, NAME}
     missing = due - {answer[0] for _, answer, _ in vectors}
     if missing:
