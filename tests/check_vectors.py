@@ -7,18 +7,19 @@
 All are written by hand from document 01, "CHECK and the meanings" and the order of judgement under "Refusals by
 number": each rule broken alone, and of two faults the one that comes first.  A case is a line: what CHECK must say, and
 the records after the base.  `ok` is a book that passes, with as many records as it has; else the refusal and the label of
-its place.  The examples of docs/CHECKING.md are among them.  compare/ has the model answer them all.
+its place.  The examples of docs/CHECKING.md are among them, and examples/ whole.  compare/ has the model answer them all.
 
 The file crates/check_vectors/stdin holds for each vector: number (1 byte), place (2), count (2),
 length of the book (3), the book; low byte first.
 """
 
+import glob
 import os
 import re
 import sys
 
 from vectors import LISTING, ROOT, book, packed, settle
-from booklib import encode, encode_labelled
+from booklib import decode, encode, encode_labelled
 
 UNDEFINED, TYPE, NAME = 10, 13, 14
 REFUSALS = {"UNDEFINED": UNDEFINED, "TYPE": TYPE, "NAME": NAME}
@@ -886,6 +887,15 @@ def paper():
         yield f"docs/CHECKING.md: {example}", answer, encode(example, "docs/CHECKING.md")
 
 
+def examples():
+    """Each of examples/ passes."""
+    for path in sorted(glob.glob(os.path.join(ROOT, "examples", "*.txt"))):
+        name = os.path.basename(path)
+        with open(path, encoding="utf-8") as stream:
+            data = encode(stream.read(), name)
+        yield name, (0, 0, len(list(decode(data, name)))), data
+
+
 def hand_vectors():
     vectors = []
     for text, first in (
@@ -895,7 +905,7 @@ def hand_vectors():
     ):  # fmt: skip
         vectors.extend(cases(text, first))
     for family in (
-        folds, lists, fold_sizes, words, wide_rows, wide_enums, many_bindings, shared_patterns, reads, paper,
+        folds, lists, fold_sizes, words, wide_rows, wide_enums, many_bindings, shared_patterns, reads, paper, examples,
     ):  # fmt: skip
         vectors.extend(family())
     return vectors
