@@ -10,7 +10,6 @@ import os
 import statistics
 import struct
 import subprocess
-import sys
 import time
 
 ROOT = os.path.dirname(os.path.dirname(os.path.abspath(__file__)))
@@ -69,19 +68,19 @@ def wide_patterns():
     return book + record("et", 0, 0)
 
 
-def time_once(book):
+def time_once(program, book):
     start = time.perf_counter()
-    done = subprocess.run([os.path.join(ROOT, "run"), "readbook"], input=book, stdout=subprocess.PIPE, check=True)
+    done = subprocess.run([os.path.join(ROOT, "run"), program], input=book, stdout=subprocess.PIPE, check=True)
     return 1000 * (time.perf_counter() - start), done.stdout.decode().strip()
 
 
-def main():
-    chosen = list(books())
+def table(program, chosen):
+    """Prints a row for each of the chosen books, of which the first is the smallest."""
     taken = {name: [] for name, _ in chosen}
     # In turn, so that what else the machine does falls on all alike.
     for _ in range(RUNS):
         for name, book in chosen:
-            ms, answer = time_once(book)
+            ms, answer = time_once(program, book)
             taken[name].append((ms, answer))
     base = min(ms for ms, _ in taken[chosen[0][0]])
     middle = statistics.median(ms for ms, _ in taken[chosen[0][0]])
@@ -89,8 +88,7 @@ def main():
         best = min(ms for ms, _ in taken[name]) - base
         median = statistics.median(ms for ms, _ in taken[name]) - middle
         print(f"| {name} | {len(book)} | {taken[name][0][1]} | {best:.1f} | {median:.1f} |")
-    return 0
 
 
 if __name__ == "__main__":
-    sys.exit(main())
+    table("readbook", list(books()))

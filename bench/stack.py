@@ -1,11 +1,12 @@
 #!/usr/bin/env python3
-"""Finds how much stack LOWER and RUN need on what is worst for them, through the program of compare/library.
+"""Finds how much stack LOWER, CHECK and RUN need on what is worst for them, through the program of compare/library.
 
     bench/stack.py [WORD]...      every call, or those whose names have these words in them
 
 LOWER recurses as deep as a book's expressions nest, which READ bounds by 255. So each construct is nested in each of
 its own places as deep as may be: no mixture of constructs takes more than the dearest of them does. At the innermost
-place of those that are dearest stand, in turn, the searches and recipes that recurse by themselves.
+place of those that are dearest stand, in turn, the searches and recipes that recurse by themselves.  CHECK goes down the
+same way; it judges parts before the whole, so all but a match's scrutinee may be of any type.
 RUN keeps its depth in a row of its own; it is tried on tables that are as deep, as long or as full as may be.
 For each call it prints the request's bytes, the answer, and the least number of bytes of stack, to a page, with which
 the call returns. That the library does without more is a matter of its compilation, and the same on every x86-64.
@@ -30,7 +31,8 @@ DEEPEST = 255
 IDEN, UNIT, INJL, INJR, DROP, COMP, PAIR, JET = 1, 2, 3, 4, 6, 7, 9, 15
 
 # A construct's record, nested in its field @. T is the unit type, P a pattern that ignores, E an expression of its
-# own, S a statement, F a function; @S is a statement, and @F a function, that holds what is nested.
+# own, S a statement, F a function; @S is a statement, and @F a function, that holds what is nested. B is the type of a
+# bit, C an expression of that type.
 NESTS = (
     "e0 T @", "e1 T @", "en T 1 3 1 @", "et T 1 @", "et T 3 E E @", "el T 4 1 @", "el T 4 3 E E @",
     "eb T 0 @", "eb T 1 S @", "eb T 1 @S @N", "eb T 2 S @S @N", "eb T 1 @SA @N",
@@ -41,6 +43,9 @@ NESTS = (
     "cy T F 255 E @", "cy T @F 255 E E", "cw T F 16 E @", "cw T @F 16 E E", "ch T 1 1 256 @", "ch T 1 2 8 E 256 @",
 )  # fmt: skip
 
+# Matches that CHECK goes into.
+TYPED_NESTS = ("em B @ P C P C", "em T C P @ P E", "em T C P E P @", "eh T C 2 P @ P E", "eh T C 2 P E P @")
+
 
 class Writer:
     """A book being written, with the depth of each record."""
@@ -48,6 +53,7 @@ class Writer:
     def __init__(self):
         self.bytes = bytearray()
         self.depths = []
+        self.bit = None
 
     def put(self, mark, *fields, names=()):
         """A record that names `names`; its number."""
@@ -83,6 +89,18 @@ def empty(book, unit):
     return book.put("et", unit, 0, names=[unit])
 
 
+def bit(book, unit):
+    """The type of a bit, written once."""
+    if book.bit is None:
+        book.bit = book.put("ts", unit, unit, names=[unit])
+    return book.bit
+
+
+def bit_witness(book, unit):
+    t = bit(book, unit)
+    return book.put("ew", t, 0, names=[t])
+
+
 def empty_function(book, unit):
     body = empty(book, unit)
     return book.put("fn", unit, 0, body, names=[unit, body])
@@ -99,6 +117,8 @@ def write_level(book, nest, whole, unit, nothing, function):
         "T": lambda: unit,
         "P": lambda: nothing,
         "F": lambda: function,
+        "B": lambda: bit(book, unit),
+        "C": lambda: bit_witness(book, unit),
         "E": lambda: empty(book, unit),
         "S": lambda: statement(empty(book, unit)),
         "@": lambda: whole,
@@ -178,6 +198,33 @@ def books():
         yield f"{nest}, in it a loop of 16 bits", nested(nest, fold_of("cw", 16))
 
 
+def typed_books():
+    """Those that CHECK goes down in, beside the others."""
+    for nest in TYPED_NESTS:
+        # A scrutinee that is nested is a bit itself.
+        yield f"{nest}, nested", nested(nest, bit_witness if "B" in nest else empty)
+    for nest in ("et T 1 @", "em T C P E P @"):
+        yield f"{nest}, in it a pattern 250 deep", deep_variable(nest)
+
+
+def deep_variable(nest):
+    """A name at the end of a pattern 250 deep, bound to a type as deep, asked for at the innermost place."""
+    book = Writer()
+    unit, nothing = book.put("tu"), book.put("pn")
+    function = empty_function(book, unit)
+    t, pattern = unit, book.put("pi", 7)
+    for _ in range(250):
+        t = book.put("tp", unit, t, names=[unit, t])
+        pattern = book.put("pt", 2, nothing, pattern, names=[nothing, pattern])
+    value = book.put("ew", t, 0, names=[t])
+    assign = book.put("sa", pattern, value, names=[pattern, value])
+    whole = variable(book, unit)
+    while book.depths[whole] < DEEPEST - 1:
+        whole = write_level(book, nest, whole, unit, nothing, function)
+    book.put("eb", unit, 1, assign, whole, names=[assign, whole])
+    return bytes(book.bytes)
+
+
 def table(*nodes):
     """Nodes as they lie in a table."""
     return b"".join(struct.pack("<BHH", *node) for node in nodes)
@@ -227,6 +274,8 @@ def calls():
     """Each call's name and request."""
     for name, book in books():
         yield f"LOWER: {name}", struct.pack("<BBII", 0, 1, FULL, len(book)) + book
+    for name, book in (*books(), *typed_books()):
+        yield f"CHECK: {name}", struct.pack("<BI", 3, len(book)) + book
     for name, book, nodes in tables():
         lengths = FULL, len(book), 0, len(nodes)
         yield f"RUN: {name}", struct.pack("<BIIIII", 1, len(nodes) // 5, *lengths) + book + nodes

@@ -1,12 +1,13 @@
-/* Calls LOWER and RUN as the plug-in's host does, from C, for each request on standard input.
+/* Calls LOWER and RUN as the plug-in's host does, from C, and READ and CHECK, for each request on standard input.
  *
  *     service [STACK]
  *
  * A request for LOWER: 0 (1 byte), symbols (1), the lengths of the table of nodes and of the book (4 each), the book.
  * For RUN: 1 (1 byte), how many nodes there are (4), the lengths of the cells, the book, the witness list and the
- * table of nodes (4 each), then these last three. The reply to either: number, place, count and cell (4 each; LOWER has
- * no cell, and 0 stands for it), how many bytes the written table has up to its last that isn't zero (4), and these
- * bytes. Numbers are low byte first.
+ * table of nodes (4 each), then these last three. For READ: 2 (1 byte), and for CHECK: 3, then the length of the book (4)
+ * and the book. The reply to any: number, place, count and cell (4 each; only RUN has a cell, and 0 stands for it), how
+ * many bytes the written table has up to its last that isn't zero (4), and these bytes; READ and CHECK write none.
+ * Numbers are low byte first.
  *
  * The table is full of 0xa5 before each call. The bytes before and after each slice, and those that are read, must be
  * the same after it. A slice of no bytes points to nowhere. The call has STACK bytes of stack, 4 MiB where none is
@@ -34,6 +35,13 @@ extern int pthread_attr_init(void *settings);
 extern int pthread_attr_setstack(void *settings, void *lowest, size length);
 extern int pthread_create(unsigned long *thread, const void *settings, void *(*start)(void *), void *given);
 extern int pthread_join(unsigned long thread, void **given_back);
+
+/* READ and CHECK, which the library `probe` has for the judges alone. */
+struct outcome {
+    number number, place, count;
+};
+extern struct outcome simplicityhl_read(const byte *book, size book_length);
+extern struct outcome simplicityhl_check(const byte *book, size book_length);
 
 enum { NOTHING = 0, READ_WRITE = 3, PRIVATE_NEW = 0x22 };
 
@@ -206,6 +214,19 @@ static void call_run(void) {
     reply(got, &cells);
 }
 
+/* READ or CHECK: no table is written. */
+static void call_judge(struct outcome (*judge)(const byte *, size)) {
+    byte head[4];
+    take_more(head, sizeof head);
+    set_length(&book, head);
+    take_input(&book);
+    nodes.length = 0;
+    make_output(&nodes);
+    struct outcome got = judge(pointer_to(&book), book.length);
+    check_input(&book);
+    reply((struct simplicityhl_run_outcome){got.number, got.place, got.count, 0}, &nodes);
+}
+
 /* Every request, with nothing below this frame but the stack that a call is given. */
 static void *serve(void *nothing) {
     byte call;
@@ -217,8 +238,12 @@ static void *serve(void *nothing) {
             call_lower();
         else if (call == 1)
             call_run();
+        else if (call == 2)
+            call_judge(simplicityhl_read);
+        else if (call == 3)
+            call_judge(simplicityhl_check);
         else
-            die("a request for neither LOWER nor RUN", "");
+            die("a request for no call that there is", "");
     }
     return nothing;
 }

@@ -1,4 +1,4 @@
-//! LOWER in Rattle, called as the plug-in's host calls it, and what the program
+//! READ, CHECK and LOWER in Rattle, called from C, and what the program
 //! `lowerbook` prints: against the model, and against the original where there
 //! is a checkout.
 
@@ -6,7 +6,9 @@ use std::io::Write;
 
 use gen::Case;
 use model::book;
+use model::check::check;
 use model::lower::{lower, trace};
+use model::Refusal;
 
 use crate::nodes::ROOM;
 use crate::service::{least_room, Answer, Service, Start, FULL, LONGER};
@@ -41,6 +43,23 @@ fn lengths(bytes: &[u8], symbols: bool) -> Vec<usize> {
     }
     lengths.dedup();
     lengths
+}
+
+/// READ and CHECK in Rattle on one book are the model's: CHECK's number.
+pub fn judges(service: &Service, case: &Case) -> Result<u32, String> {
+    let ours = |records: Result<usize, Refusal>| {
+        Answer::new(records.map(|records| (records as u32, 0)), Vec::new())
+    };
+    let read = book::read(&case.book).map(|book| book.records.len());
+    service
+        .read(&case.book)?
+        .is_model(&ours(read))
+        .map_err(|why| format!("READ: {why}"))?;
+    let checked = service.check(&case.book)?;
+    checked
+        .is_model(&ours(check(&case.book)))
+        .map_err(|why| format!("CHECK: {why}"))?;
+    Ok(checked.number)
 }
 
 /// What was seen of one book.

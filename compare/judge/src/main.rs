@@ -3,10 +3,11 @@
 //!     judge gate [FILE]...    a few thousand books of each sort, and these
 //!     judge nightly COUNT     COUNT books of each sort
 //!     judge store             writes the original's answers to a sample
-//!     judge vectors COUNT     writes READ's vectors to standard output
+//!     judge reads COUNT       writes vectors for READ to standard output
+//!     judge checks COUNT      and for CHECK, of COUNT books of each sort
 //!     judge library COUNT SERVICE LOWERBOOK [WORD]...
-//!                             LOWER and RUN in Rattle on COUNT books or more
-//!                             of each sort, through the program of
+//!                             all calls in Rattle on COUNT books or more of
+//!                             each sort, through the program of
 //!                             `compare/library`, and `lowerbook` on some; what
 //!                             programs are started under comes last
 
@@ -29,16 +30,22 @@ use model::book;
 use model::check::check;
 use service::{Service, Start};
 
-/// Where the stored answers and READ's vectors are, from this crate.
+/// Where the stored answers and the vectors of READ and CHECK are, from this
+/// crate.
 const ANSWERS: &str = concat!(env!("CARGO_MANIFEST_DIR"), "/../answers");
-const VECTORS: &str = concat!(
+const READS: &str = concat!(
     env!("CARGO_MANIFEST_DIR"),
     "/../../crates/read_vectors/stdin"
+);
+const CHECKS: &str = concat!(
+    env!("CARGO_MANIFEST_DIR"),
+    "/../../crates/check_vectors/stdin"
 );
 
 /// A comparison of fewer books or tables, or with fewer failures, shows too
 /// little.
 const BOOKS: usize = 2_000;
+const CHECKED: usize = 5_000;
 const TABLES: usize = 5_000;
 const FAILURES: usize = 200;
 
@@ -207,6 +214,31 @@ fn each_sort<T: Send>(
     Ok(said)
 }
 
+/// READ and CHECK in Rattle against the model.
+fn compare_checks(some: usize, service: &str, start: &Start) -> Result<(), String> {
+    let service = Service::new(start, service)?;
+    let cases = vectors::checks(some);
+    let case = |number: usize| cases[number].clone();
+    let numbers = each(cases.len(), case, |case| library::judges(&service, case))?;
+    if let Some(number) = [0, 1, 2, 3, 4, 5, 6, 7, 8, 9, 10, 13, 14]
+        .iter()
+        .find(|number| !numbers.contains(number))
+    {
+        return Err(format!("CHECK in Rattle never answers {number}"));
+    }
+    let (calls, spent) = service.calls();
+    say(&format!(
+        "READ and CHECK in Rattle are the model's in {calls} calls on {} books ({} pass, {} refused by 10, {} by 13, {} by 14); a call takes {} microseconds",
+        numbers.len(),
+        count(&numbers, 0),
+        count(&numbers, 10),
+        count(&numbers, 13),
+        count(&numbers, 14),
+        spent.as_micros(),
+    ));
+    enough(numbers.len(), CHECKED, "books compared")
+}
+
 /// LOWER in Rattle against both judges.
 fn compare_library(some: usize, service: &str, start: &Start) -> Result<(), String> {
     let service = Service::new(start, service)?;
@@ -270,8 +302,11 @@ fn replay() -> Result<(), String> {
     say(&format!(
         "the model gives the original's {answers} stored answers"
     ));
-    let vectors = vectors::replay(&read(VECTORS)?)?;
-    say(&format!("the model's READ gives {vectors} stored vectors"));
+    let reads = vectors::replay(&read(READS)?, vectors::read)?;
+    let checks = vectors::replay(&read(CHECKS)?, check)?;
+    say(&format!(
+        "the model's READ gives {reads} stored vectors, its CHECK {checks}"
+    ));
     Ok(())
 }
 
@@ -314,10 +349,17 @@ fn store() -> Result<(), String> {
     std::fs::write(ANSWERS, answers::write()).map_err(|error| format!("{ANSWERS}: {error}"))
 }
 
-fn write_vectors(some: usize) -> Result<(), String> {
+fn write(vectors: &[u8]) -> Result<(), String> {
     let mut out = std::io::stdout();
-    out.write_all(&vectors::write(some))
-        .map_err(|error| error.to_string())
+    out.write_all(vectors).map_err(|error| error.to_string())
+}
+
+fn write_reads(some: usize) -> Result<(), String> {
+    write(&vectors::write(vectors::reads(some), vectors::read))
+}
+
+fn write_checks(some: usize) -> Result<(), String> {
+    write(&vectors::write(vectors::checks(some), check))
 }
 
 fn main() -> ExitCode {
@@ -331,16 +373,18 @@ fn main() -> ExitCode {
         ["gate", ref paths @ ..] => judge(paths, 4_000),
         ["nightly", some] => number(some).and_then(|some| judge(&[], some)),
         ["store"] => store(),
-        ["vectors", some] => number(some).and_then(write_vectors),
+        ["reads", some] => number(some).and_then(write_reads),
+        ["checks", some] => number(some).and_then(write_checks),
         ["library", some, service, lowerbook, ref under @ ..] => {
             let start = Start { under };
             number(some).and_then(|some| {
+                compare_checks(some, service, &start)?;
                 compare_library(some, service, &start)?;
                 compare_runs(some, service, &start)?;
                 compare_listings(LISTINGS, lowerbook, &start)
             })
         }
-        _ => Err("usage: judge gate [FILE]... | nightly COUNT | store | vectors COUNT | library COUNT SERVICE LOWERBOOK [WORD]...".to_string()),
+        _ => Err("usage: judge gate [FILE]... | nightly COUNT | store | reads COUNT | checks COUNT | library COUNT SERVICE LOWERBOOK [WORD]...".to_string()),
     };
     match done {
         Ok(()) => ExitCode::SUCCESS,

@@ -1,5 +1,5 @@
-//! LOWER and RUN in Rattle, called as the plug-in's host calls them: through
-//! the program of `compare/library`, once for each request.
+//! LOWER and RUN in Rattle, called as the plug-in's host calls them, and READ
+//! and CHECK: through the program of `compare/library`, once for each request.
 
 use std::io::{Read, Write};
 use std::process::{Child, ChildStdin, ChildStdout, Command, Stdio};
@@ -167,6 +167,16 @@ impl Service {
         let [book, witnesses, nodes] = slices.map(<[u8]>::len);
         let lengths = [given.count as usize, length, book, witnesses, nodes];
         self.ask(&[1], &lengths, &slices, length)
+    }
+
+    /// READ.
+    pub fn read(&self, book: &[u8]) -> Result<Answer, String> {
+        self.ask(&[2], &[book.len()], &[book], 0)
+    }
+
+    /// CHECK.
+    pub fn check(&self, book: &[u8]) -> Result<Answer, String> {
+        self.ask(&[3], &[book.len()], &[book], 0)
     }
 
     /// A request of bytes, numbers and slices, as `service.c` says, and the reply.
