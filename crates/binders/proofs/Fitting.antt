@@ -29,10 +29,10 @@ use Rattle.shapes.proofs.Same.{gives-none, gives-some}
 use Rattle.binders.proofs.Bits.{marked-none}
 
 -- a row of zeros knows no pair
-pub known-none : (b i memo : List ℕ) → memo ≡ replicate 2097152 0 → Known b i memo
+pub known-none : (b i memo : List ℕ) → memo ≡ replicate 524288 0 → Known b i memo
 known-none b i memo e = record {
-  size = zero-size 2097152 e;
-  sound = λ p t h m. absurd (true-false (sym m ∙ marked-none 2097152 p t e));
+  size = zero-size 524288 e;
+  sound = λ p t h m. absurd (true-false (sym m ∙ marked-none 524288 p t e));
 }
 
 -- what is marked still fits where a pair that fits was marked

@@ -1,6 +1,6 @@
 -- What the code holds of patterns beside types: the pairs that are known to fit, the names that were met, the row of live bindings.
 -- Assumes nothing.
-use Prim.Native.Nat.{ℕ, zero, suc, _+_, _*_, _/_, _%_, _≤_, _<_}
+use Prim.Native.Nat.{ℕ, zero, suc, _+_, _*_, _/_, _%_, _^_, _≤_, _<_}
 use mathlib.Core.Bool.{Bool, true}
 use mathlib.Core.List.{List, [], _∷_}
 use mathlib.Core.Logic.{_⊎_}
@@ -23,19 +23,16 @@ use Rattle.binders.specs.Binders.{fits, names, twice, Binding, binding, 
 use Rattle.binders.specs.declared.Noted.{Noted}
 use Rattle.binders.specs.declared.Noted.the-variants as notes
 
--- 2 ^ j, for j below 8; bit j of a byte; whether the pair of pattern p and type t is marked
-abbrev pub powerOf : ℕ → ℕ
-powerOf j = getD (1 ∷ 2 ∷ 4 ∷ 8 ∷ 16 ∷ 32 ∷ 64 ∷ 128 ∷ []) j 0
-
+-- bit j of a word; whether the pair of pattern p and type t is marked: a row of 4096 bits, in words of 32, for each pattern
 unfoldable pub bitOf : ℕ → ℕ → Bool
-bitOf v j = eqb (v / powerOf j % 2) 1
+bitOf v j = eqb (v / 2 ^ j % 2) 1
 
 unfoldable pub marked : List ℕ → ℕ → ℕ → Bool
-marked memo p t = bitOf (getD memo (p * 512 + t / 8) 0) (t % 8)
+marked memo p t = bitOf (getD memo (p * 128 + t / 32) 0) (t % 32)
 
 -- each pair that is marked fits
 pub record Known (b i memo : List ℕ) : Type 0 where
-  pub size : length memo ≡ 2097152
+  pub size : length memo ≡ 524288
   pub sound : (p t : ℕ) → t < 4096 → marked memo p t ≡ true → fits (patternOf b i p) (typeOf b i t) ≡ true
 
 -- no pair but (p, t) is marked newly
@@ -88,7 +85,7 @@ pub record Tallies (b i : List ℕ) (xs ns : List ℕ) (s : Noted) (ns′ ms′ 
   pub nameless : Nameless b i ms′
   pub notes : Notes xs ns s ns′
 
--- a row that has for each pattern among the first n records whether a name stands in it twice: 1 or 0
+-- a row that has for each pattern among the first n records whether a name stands in it twice: 1 or 0; behind them it has zeros
 pub record Doubled (b i : List ℕ) (n : ℕ) (ds : List ℕ) : Type 0 where
   pub size : length ds ≡ 4096
   pub is : (r : ℕ) → r < n → kind b i r ≡ PATTERN → getD ds r 0 ≡ pick (twice (names (patternOf b i r))) 1 0

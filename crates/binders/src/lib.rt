@@ -15,7 +15,7 @@ ghost use Rattle.pattern.specs.Find.{find, paramsOf};
 ghost use Rattle.pattern.specs.Seeks.{Memo};
 ghost use Rattle.shapes.specs.Views.{Gives};
 ghost use Rattle.binders.specs.Binders.{fits, names, paramNames, twice, typeFor, scopeIn};
-ghost use Rattle.binders.specs.Memos.{powerOf, marked, Known, Marks, Fitted, Sights, Met, Nameless, Notes, Tallies, Doubled, Binds, scopeOf, Live, Newest};
+ghost use Rattle.binders.specs.Memos.{marked, Known, Marks, Fitted, Sights, Met, Nameless, Notes, Tallies, Doubled, Binds, scopeOf, Live, Newest};
 use book::format::PI;
 use book::format::PT;
 use book::format::TP;
@@ -26,39 +26,28 @@ use shapes::part::NONE;
 use shapes::part::is_unit;
 use shapes::part::place;
 
-const POWERS: [u8; 8] = [1, 2, 4, 8, 16, 32, 64, 128];
-
-fn power(j: usize) -> u8
-    requires { ⌜ j < 8 ⌝ }
-    ensures { λ r. ⌜ (r ≡ powerOf j) × (1 ≤ r) ⌝ }
-{
-    POWERS[j]
-}
-
 // Whether a pattern is known to fit a type: a bit for each pair.
-fn known(p: usize, t: usize, memo: &[u8]) -> bool
-    requires { ⌜ (p < 4096) × (t < 4096) × (length (now memo) ≡ 2097152) ⌝ }
+fn known(p: usize, t: usize, memo: &[u32]) -> bool
+    requires { ⌜ (p < 4096) × (t < 4096) × (length (now memo) ≡ 524288) ⌝ }
     ensures { λ r. ⌜ r ≡ marked (now (memo .entry)) p t ⌝ }
 {
-    let w = power(t % 8);
-    let v = memo[p * 512 + t / 8];
-    v / w % 2 == 1
+    let v = memo[p * 128 + t / 32];
+    (v >> (t % 32)) % 2 == 1
 }
 
-fn mark(p: usize, t: usize, memo: &mut [u8])
-    requires { ⌜ (p < 4096) × (t < 4096) × (length (now memo) ≡ 2097152) ⌝ }
+fn mark(p: usize, t: usize, memo: &mut [u32])
+    requires { ⌜ (p < 4096) × (t < 4096) × (length (now memo) ≡ 524288) ⌝ }
     ensures { λ _. ⌜ Marks (now (memo .entry)) p t (now (memo .exit)) ⌝ }
 {
     if known(p, t, memo) {
         return;
     }
-    let w = power(t % 8);
-    let v = memo[p * 512 + t / 8];
-    memo[p * 512 + t / 8] = v + w;
+    let v = memo[p * 128 + t / 32];
+    memo[p * 128 + t / 32] = v + (1u32 << (t % 32));
 }
 
 // Whether a pattern fits a type. What is found to fit is kept for later questions; what does not fit ends them all.
-pub fn fits(book: &[u8], index: &[u16], p: u16, t: u16, memo: &mut [u8]) -> bool
+pub fn fits(book: &[u8], index: &[u16], p: u16, t: u16, memo: &mut [u32]) -> bool
     requires { ⌜ Stands (now book) (now index) p PATTERN ⌝ ∗ ⌜ Stands (now book) (now index) t TYPE ⌝ ∗ ⌜ Known (now book) (now index) (now memo) ⌝ }
     ensures { λ f. ⌜ Fitted (now (book .entry)) (now (index .entry)) (fits (patternOf (now (book .entry)) (now (index .entry)) p) (typeOf (now (book .entry)) (now (index .entry)) t)) f (now (memo .exit)) ⌝ }
 {
@@ -76,7 +65,7 @@ pub fn fits(book: &[u8], index: &[u16], p: u16, t: u16, memo: &mut [u8]) -> bool
 }
 
 // The same for a row: each element fits the type at its place.
-fn fits_row(book: &[u8], index: &[u16], p: u16, t: u16, memo: &mut [u8]) -> bool
+fn fits_row(book: &[u8], index: &[u16], p: u16, t: u16, memo: &mut [u32]) -> bool
     requires { ⌜ Stands (now book) (now index) p PATTERN ⌝ ∗ ⌜ mark (now book) (now index) p ≡ PT ⌝ ∗ ⌜ Stands (now book) (now index) t TYPE ⌝ ∗ ⌜ Known (now book) (now index) (now memo) ⌝ }
     ensures { λ f. ⌜ Fitted (now (book .entry)) (now (index .entry)) (fits (patternOf (now (book .entry)) (now (index .entry)) p) (typeOf (now (book .entry)) (now (index .entry)) t)) f (now (memo .exit)) ⌝ }
 {

@@ -58,7 +58,7 @@ fn records(book: &[u8], index: &[u16], n: u16) -> Checked
     }
     let mut doubled = [0u8; 4096];
     doubles(book, index, n, &mut doubled);
-    let mut memo = [0u8; 2097152];
+    let mut memo = [0u32; 524288];
     let mut missing = [0u8; 4096];
     let mut bindings = [0u16; 130560];
     expressions(book, index, n, &doubled, &mut memo, &mut missing, &mut bindings)
@@ -70,7 +70,7 @@ fn expressions(
     index: &[u16],
     n: u16,
     doubled: &[u8],
-    memo: &mut [u8],
+    memo: &mut [u32],
     missing: &mut [u8],
     bindings: &mut [u16],
 ) -> Checked
@@ -128,7 +128,7 @@ fn functions(
     index: &[u16],
     n: u16,
     doubled: &[u8],
-    memo: &mut [u8],
+    memo: &mut [u32],
     missing: &mut [u8],
     bindings: &mut [u16],
 ) -> Checked
@@ -154,7 +154,7 @@ fn function_at(
     index: &[u16],
     r: u16,
     doubled: &[u8],
-    memo: &mut [u8],
+    memo: &mut [u32],
     missing: &mut [u8],
     bindings: &mut [u16],
 ) -> Checked

@@ -17,7 +17,7 @@ pub doubles-spec : {M : Type 1} → statement M
 doubles-spec =
     tie.close
     (tie.spec
-    (λ b i n ds₀ ms₀ r₀ ds ms r. Doubling b i r ds × Nameless b i ms)
+    (λ b i n ds₀ ms₀ r₀ ds ms r. Doubling b i n r ds × Nameless b i ms)
     (λ b i n ds₀ ms₀ r₀ ds ms r. n - r)
     (λ c. (search doubling-none, nameless-none _ _ _ refl))
     (λ c κs. search record-begins)
@@ -27,6 +27,6 @@ doubles-spec =
     (λ c. search needs)
     (λ c. search needs)
     (λ c. search needs)
-    (λ c. ⊎-elim (λ w. rw (w .5) (rw (w .6) (doubling-twice (c .before .before .before .loop .inv .0) _ refl (omega (arith, c .before .before .before .loop .inv .0 .size)) (w .2 .ensures .0) (w .4 .taken), w .2 .ensures .1))) (⊎-elim (λ w. rw (w .5) (rw (w .6) (doubling-once (c .before .before .before .loop .inv .0) _ refl (w .2 .ensures .0) (w .4 .left), w .2 .ensures .1))) (λ w. rw (w .1) (rw (w .2) (doubling-other (c .before .before .before .loop .inv .0) _ refl (c .before .before .before .before .before .before .before .pre .0) (c .before .before .loop-test .taken) (c .before .mark-at .ensures) (w .0 .left), c .before .before .before .loop .inv .1)))) (c .if1 .came))
+    (λ c. ⊎-elim (λ w. rw (w .5) (rw (w .6) (doubling-twice (c .before .before .before .loop .inv .0) _ refl (c .before .before .loop-test .taken) (omega (arith, c .before .before .before .loop .inv .0 .size)) (w .2 .ensures .0) (w .4 .taken), w .2 .ensures .1))) (⊎-elim (λ w. rw (w .5) (rw (w .6) (doubling-once (c .before .before .before .loop .inv .0) _ refl (c .before .before .loop-test .taken) (w .2 .ensures .0) (w .4 .left), w .2 .ensures .1))) (λ w. rw (w .1) (rw (w .2) (doubling-other (c .before .before .before .loop .inv .0) _ refl (c .before .before .loop-test .taken) (c .before .before .before .before .before .before .before .pre .0) (c .before .mark-at .ensures) (w .0 .left), c .before .before .before .loop .inv .1)))) (c .if1 .came))
     (λ c. c .before .loop .inv .0 .size ∙ sym (zero-size 4096 (c .before .before .before .before .before .pre .1)))
     (λ c. search doubling-all))

@@ -1,4 +1,4 @@
--- `known` meets its contract: the pair's bit in its byte.
+-- `known` meets its contract: the pair's bit in its word.
 -- Assumes nothing.
 use Rattle.binders.specs.Memos.{bitOf, marked}
 use borrow.Author.Needs.{needs}
@@ -10,9 +10,10 @@ unfolding bitOf marked
 known-spec =
     tie.close
     (tie.spec
-    (λ c κs. search needs)
     (λ c. search needs)
     (λ c. search needs)
     (λ c. search needs)
     (λ c. search needs)
-    (λ c. rw (c .before .power .ensures .0)))
+    (λ c. search needs)
+    (λ c. search needs)
+    (λ c. search needs))

@@ -2,7 +2,7 @@
 -- Assumes nothing.
 use mathlib.Core.Path.{sym, _∙_}
 use native.Mathlib.Omega.{arith}
-use Rattle.binders.proofs.Bits.{marks-old, marks-new, mark-fits}
+use Rattle.binders.proofs.Bits.{one-moved, marks-old, marks-new, mark-fits}
 use borrow.Author.Needs.{needs}
 use Rattle.binders.proofs.mark.Statement.{statement}
 use Rattle.binders.proofs.mark.Tie as tie
@@ -14,13 +14,16 @@ mark-spec =
     (λ c κs. search needs)
     (λ c. search needs)
     (λ c. marks-old)
-    (λ c κs. search needs)
-    (λ c. search needs)
-    (λ c. search needs)
-    (λ c. search needs)
-    (λ c. omega (arith, mark-fits (c .before .before .before .before .before .before .args .memo .now) (c .before .before .before .before .before .before .args .p) (c .before .before .before .before .before .before .args .t) (c .before .before .before .before .before .before .pre) (λ j. omega (arith, c .slice-known2 .given j)) (sym (c .before .before .before .known .ensures) ∙ c .before .before .if1 .left) (c .before .power .ensures .0)))
     (λ c. search needs)
     (λ c. search needs)
     (λ c. search needs)
     (λ c. search needs)
-    (λ c. marks-new (c .before .before .before .before .before .before .args .memo .now) (c .before .before .before .before .before .before .args .p) (c .before .before .before .before .before .before .args .t) (c .before .before .before .before .before .before .pre) (λ j. omega (arith, c .slice-known2 .given j)) (sym (c .before .before .before .known .ensures) ∙ c .before .before .if1 .left) (c .before .power .ensures .0)))
+    (λ c. search needs)
+    (λ c. search needs)
+    (λ c. omega (arith, mark-fits (c .before .before .before .before .before .args .memo .now) (c .before .before .before .before .before .args .p) (c .before .before .before .before .before .args .t) (c .before .before .before .before .before .pre) (λ j. omega (arith, c .slice-known2 .given j)) (sym (c .before .before .known .ensures) ∙ c .before .if1 .left) (one-moved _ (omega arith))))
+    (λ c. search needs)
+    (λ c. search needs)
+    (λ c. search needs)
+    (λ c. search needs)
+    (λ c. search needs)
+    (λ c. marks-new (c .before .before .before .before .before .args .memo .now) (c .before .before .before .before .before .args .p) (c .before .before .before .before .before .args .t) (c .before .before .before .before .before .pre) (λ j. omega (arith, c .slice-known2 .given j)) (sym (c .before .before .known .ensures) ∙ c .before .if1 .left) (one-moved _ (omega arith))))
