@@ -27,7 +27,7 @@ use Rattle.typing.specs.Typed.{Binds, Typed, AllTyped, WordsTyped, ArmsT
 use Rattle.typing.specs.declared.cycle.Checked.{Checked}
 use Rattle.typing.specs.declared.cycle.Checked.the-variants.{Passed, Refused}
 use Rattle.typing.proofs.Earlier.{Before, each-before, in-head, in-group}
-use Rattle.typing.proofs.Values.{Good}
+use Rattle.typing.proofs.Valued.{Good}
 
 -- what refuses does not pass
 refused-not : {P : Type 0} (w : Refusal) → Refused w ≡ Passed → P

@@ -28,7 +28,7 @@ use Rattle.typing.specs.declared.cycle.Checked.{Checked}
 use Rattle.typing.specs.declared.cycle.Checked.the-variants.{Passed, Refused}
 use Rattle.typing.proofs.Earlier.{read-stands}
 use Rattle.typing.proofs.Passing.{both-pass, holds-pass, typed-passes, fun-passes}
-use Rattle.typing.proofs.Values.{values-good}
+use Rattle.typing.proofs.Valued.{values-good}
 use Rattle.typing.proofs.Deepening.{passed-both, passed-holds, passed-typed, passed-funs}
 
 -- what is judged in order passes if each passes, and then each does

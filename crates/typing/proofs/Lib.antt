@@ -10,4 +10,4 @@ mod Orders
 mod Passing
 mod Scopes
 mod Steps
-pub mod Values
+pub mod Valued

@@ -20,7 +20,7 @@ records-spec =
     (λ c. search needs)
     (λ c κs. (c .before .before .before .before .before .before .pre .0, refl))
     (λ c. search needs)
-    (λ c. length-replicate {A = ℕ} 1048576 0)
+    (λ c. length-replicate {A = ℕ} 524288 0)
     (λ c. search needs)
     (λ c. length-replicate {A = ℕ} 130560 0)
     (λ c κs. (c .before .before .before .before .before .before .before .before .before .before .before .before .pre .0, rows-first (c .before .before .before .before .before .before .before .before .before .before .before .before .pre .0) (c .before .before .before .before .before .before .before .before .before .before .before .before .pre .1) (c .before .before .before .before .before .doubles .ensures) (known-none _ _ _ refl) (zeros-long 4096 refl) (zeros-long 130560 refl)))
