@@ -1,11 +1,11 @@
 -- What each construct's declared type must be, by the declared types of its parts.
 -- Assumes nothing.
-use Prim.Native.Nat.{ℕ, zero, suc, _-_, _/_}
+use Prim.Native.Nat.{ℕ, zero, suc, _-_}
 use mathlib.Core.Bool.{Bool, true, false}
 use mathlib.Core.List.{List, [], _∷_}
 use mathlib.Core.Option.{Option, some, none}
 use lib.ListN.{replicate}
-use Rattle.laws.specs.Table.{both, below, Case, at, choose}
+use Rattle.laws.specs.Table.{both, below, at, choose}
 use Rattle.array.specs.Split.{topOf}
 use Rattle.array.specs.Path.{Side, onLeft, onRight, path}
 use Rattle.array.specs.Row.{row}

@@ -1,13 +1,13 @@
 -- What the parts of the comparison promise: a type's record, or none.
 -- Assumes nothing.
-use Prim.Native.Nat.{ℕ, suc, _≤_}
-use mathlib.Core.Bool.{Bool, true}
+use Prim.Native.Nat.{ℕ}
+use mathlib.Core.Bool.{Bool}
 use mathlib.Core.List.{List, [], _∷_}
 use mathlib.Core.Option.{Option, some, none}
 use mathlib.Core.Path.{_≡_}
 use lib.Dec.{T, eqb}
 use Rattle.laws.specs.Table.{pick, among}
-use Rattle.array.specs.Path.{Side, onLeft, onRight}
+use Rattle.array.specs.Path.{onLeft, onRight}
 use Rattle.simplicity.specs.Types.{Ty}
 use Rattle.book.specs.Format.{TYPE, TS, TP, powerIn}
 use Rattle.book.specs.Stands.{Stands}

@@ -2,9 +2,8 @@
 ghost use mathlib.Core.Path.{_≡_};
 ghost use mathlib.Core.Bool.{true};
 ghost use lib.Dec.{T};
-ghost use Prim.Native.Nat.{_+_, _*_, _<_, _≤_};
+ghost use Prim.Native.Nat.{_+_, _<_, _≤_};
 ghost use Rattle.array.specs.Split.{topOf};
-ghost use Rattle.array.specs.Path.{path};
 ghost use Rattle.simplicity.specs.Types.{one, two, same};
 ghost use Rattle.book.specs.Format.{TYPE, EXPRESSION, powers};
 ghost use Rattle.book.specs.Stands.{Stands};

@@ -2,7 +2,7 @@
 -- Assumes nothing.
 use Prim.Native.Nat.{ℕ, zero, suc, _+_, _-_, _*_, _≤_, _<_}
 use mathlib.Core.Bool.{Bool, true, false}
-use mathlib.Core.List.{List, [], _∷_}
+use mathlib.Core.List.{List}
 use mathlib.Core.Path.{_≡_, refl, sym, ap, subst, _∙_}
 use native.Mathlib.Omega.{arith}
 use lib.Dec.{T, eqb, ltb, leb, leb→le, eqb→eq}
@@ -11,18 +11,17 @@ use Rattle.laws.specs.Table.{pick, both, among, both-left, both-right}
 use Rattle.book.specs.Format.{PATTERN, EXPRESSION, STATEMENT, FUNCTION, SA, SE, EB, EM, EH, CK, FN, END, within, inRange}
 use Rattle.book.specs.Index.{mark, field, named, depth, Lies}
 use Rattle.book.specs.Stands.{Stands}
-use Rattle.book.specs.Tree.{group, exprOf}
+use Rattle.book.specs.Tree.{exprOf}
 use Rattle.book.proofs.Built.{group-next, group-none}
 use Rattle.book.proofs.Roles.{Field, layout, isKind, names-end, head-field, each-field, last-field}
 use Rattle.book.proofs.Standing.{stands-mark, field-in, field-stands, field-below, end-stands, end-below, head-lies, head-most, head-ranged, function-mark}
-use Rattle.parts.specs.Parts.{Marked, Spanned, rowMarks, span, spanAt}
+use Rattle.parts.specs.Parts.{Marked, Spanned, rowMarks, spanAt}
 use Rattle.parts.specs.declared.view.Span.{Span}
 use Rattle.parts.proofs.Spans.{span-field, stmt-field, does-mark}
 use Rattle.binders.specs.Binders.{Binding}
 use Rattle.typing.specs.Check.{andThen, check}
 use Rattle.typing.specs.Cycle.{Arm, Arms, checksAt}
-use Rattle.typing.specs.declared.cycle.Checked.{Checked}
-use Rattle.typing.specs.declared.cycle.Checked.the-variants.{Passed, Refused}
+use Rattle.typing.specs.declared.cycle.Checked.the-variants.{Passed}
 use Rattle.typing.proofs.Depths.{field-shallower, kind-shallower}
 
 -- record x, of kind kd, is a part of record r

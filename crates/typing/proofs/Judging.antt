@@ -1,10 +1,10 @@
 -- Laws of judgements one after another: the first fault ends them, and the live bindings stay.
 -- Assumes nothing.
-use Prim.Native.Nat.{ℕ, _*_, _≤_, _<_}
-use mathlib.Core.Path.{_≡_, refl, sym, ap, _∙_}
+use Prim.Native.Nat.{ℕ, _≤_}
+use mathlib.Core.Path.{_≡_, refl, ap, _∙_}
 use mathlib.Core.List.{List}
 use native.Mathlib.Omega.{arith}
-use lib.ListN.{length, getD}
+use lib.ListN.{length}
 use Rattle.book.specs.declared.fault.Refusal.{Refusal}
 use Rattle.binders.specs.Memos.{Known}
 use Rattle.typing.specs.Check.{andThen}

@@ -1,18 +1,18 @@
 -- What the parts of CHECK that judge no expression come to: a variable, a binding, a function, a value.
 -- Assumes nothing.
-use Prim.Native.Nat.{ℕ, zero, suc, _+_, _*_, _≤_, _<_}
+use Prim.Native.Nat.{ℕ, _+_, _*_, _<_}
 use mathlib.Core.Bool.{Bool, true, false, not}
-use mathlib.Core.List.{List, [], _∷_}
+use mathlib.Core.List.{List}
 use mathlib.Core.Logic.{inr}
-use mathlib.Core.Path.{_≡_, refl, sym, ap, _∙_}
+use mathlib.Core.Path.{_≡_, refl, sym, _∙_}
 use native.Mathlib.Omega.{arith}
-use borrow.Author.Tests.{eq-eqb, ne-eqb}
+use borrow.Author.Tests.{ne-eqb}
 use lib.Dec.{eqb}
-use lib.ListN.{length, getD, set}
+use lib.ListN.{length, getD}
 use Rattle.laws.specs.Table.{pick}
 use Rattle.simplicity.specs.Types.{Ty, same}
 use Rattle.book.specs.Faults.{refusal}
-use Rattle.book.specs.Format.{TYPE, PATTERN, EXPRESSION, STATEMENT, FUNCTION, SA, EV, FN}
+use Rattle.book.specs.Format.{TYPE, PATTERN, EXPRESSION, FUNCTION, SA, EV, FN}
 use Rattle.book.specs.Index.{mark, field}
 use Rattle.book.specs.Stands.{Stands}
 use Rattle.book.specs.Tree.{typeOf, patternOf, exprOf, funOf, asFun}
@@ -22,9 +22,9 @@ use Rattle.book.proofs.Standing.{stands-tree, stands-few, head-stands, function
 use Rattle.parts.specs.Parts.{Marked}
 use Rattle.pattern.specs.Find.{paramsOf}
 use Rattle.shapes.specs.Shapes.{typeIs}
-use Rattle.shapes.specs.Views.{NONE, Gives, nowhere, record-of}
+use Rattle.shapes.specs.Views.{NONE, Gives}
 use Rattle.binders.specs.Binders.{fits, names, paramNames, twice, Binding, scopeIn, typeFor}
-use Rattle.binders.specs.Memos.{Known, Fitted, Binds, Live, scopeOf, baseOf}
+use Rattle.binders.specs.Memos.{Fitted, Live, scopeOf}
 use Rattle.typing.specs.Check.{andThen, hold, agree, binds, known, check, checkFun}
 use Rattle.typing.specs.Cycle.{Rows, Scoped, Enough, Stays, Bound, liveAfter}
 use Rattle.typing.specs.declared.cycle.Checked.{Checked}

@@ -2,18 +2,18 @@
 -- Assumes nothing.
 use Prim.Native.Nat.{ℕ, zero, suc, _+_, _*_}
 use mathlib.Core.Bool.{Bool, true, false}
-use mathlib.Core.Path.{_≡_, refl, sym, ap, _∙_}
+use mathlib.Core.Path.{_≡_, refl, ap, _∙_}
 use mathlib.Core.List.{List, [], _∷_}
 use native.Mathlib.Omega.{arith}
 use native.Mathlib.Nat.{add-zero}
 use borrow.Author.Tests.{eq-eqb, ne-eqb}
 use lib.Dec.{T, eqb, eqb→eq}
 use Rattle.laws.specs.Table.{pick, among, every, _also_}
-use Rattle.book.specs.Format.{STATEMENT, FUNCTION, EC, EW, EV, ET, EL, E0, E1, EN, EB, SA, SE, EM, EH, CJ, CL, CR, CD, CA, CP, CN, CK, CF, CQ, CY, CW, CH, FN}
+use Rattle.book.specs.Format.{STATEMENT, EC, EW, EV, ET, EL, E0, E1, EN, EB, SA, SE, EM, EH, CJ, CL, CR, CD, CA, CP, CN, CK, CF, CQ, CY, CW, CH}
 use Rattle.book.specs.Index.{mark, field}
 use Rattle.book.specs.Stands.{Stands}
-use Rattle.book.specs.Tree.{Tree, Stmts, tree, exprOf, patternOf, typeOf, funOf, asExpr, asPattern, asStmt, asFun, group, exprsAt, armsAt, partsAt, maker}
-use Rattle.book.proofs.Standing.{stands-tree, stands-mark, function-mark}
+use Rattle.book.specs.Tree.{Tree, Stmts, tree, exprOf, typeOf, asExpr, asStmt, group, exprsAt, armsAt, partsAt, maker}
+use Rattle.book.proofs.Standing.{stands-tree, stands-mark}
 use Rattle.simplicity.specs.Types.{Ty}
 use Rattle.parts.specs.Parts.{Marked, spanAt}
 use Rattle.shapes.specs.Shapes.{typeIs, whole}
@@ -21,7 +21,7 @@ use Rattle.binders.specs.Binders.{Binding, typeFor}
 use Rattle.typing.specs.Check.{andThen, agree, known, armCount, check, checks, words, arms, statements, variantType}
 use Rattle.typing.specs.Cycle.{checksAt, rowOf, armOf, armsFrom, matchOf, stmtsOf, blockOf, statementOf, enteredOf, partsOf}
 use Rattle.typing.specs.declared.cycle.Checked.{Checked}
-use Rattle.typing.specs.declared.cycle.Checked.the-variants.{Passed, Refused}
+use Rattle.typing.specs.declared.cycle.Checked.the-variants.{Passed}
 use Rattle.typing.proofs.Judging.{then-pass, then-then}
 
 -- a row's elements, in groups of fields

@@ -1,16 +1,15 @@
 -- From the records in their order to CHECK's answer.
 -- Assumes nothing.
-use Prim.Native.Nat.{ℕ, zero, suc, _+_, _-_, _≤_, _<_}
-use mathlib.Core.Bool.{Bool, true, false}
+use Prim.Native.Nat.{ℕ, suc, _+_, _-_, _≤_, _<_}
+use mathlib.Core.Bool.{Bool, false}
 use mathlib.Core.List.{List, [], _∷_}
 use mathlib.Core.Logic.{inl}
 use mathlib.Core.Path.{_≡_, refl, sym, ap, _∙_}
 use native.Mathlib.Omega.{arith}
-use borrow.Author.Tests.{eq-eqb, ne-eqb}
-use lib.Dec.{eqb}
+use borrow.Author.Tests.{ne-eqb}
 use lib.ListN.{length, getD, replicate, length-replicate}
 use Rattle.laws.specs.Order.{by-lt}
-use Rattle.laws.specs.Table.{pick, among, every, _also_}
+use Rattle.laws.specs.Table.{among, every, _also_}
 use Rattle.book.specs.Format.{VALUE, PATTERN, FUNCTION, EXPRESSION, PI, PN, PT, kindOf}
 use Rattle.book.specs.Index.{mark, kind, field, Begins}
 use Rattle.book.specs.Read.{markAt, kindAt, fieldAt, readOf, indexOf, Outcome, done, refused, reading, placesOf}
@@ -30,13 +29,11 @@ use Rattle.shapes.specs.Views.{NONE}
 use Rattle.binders.specs.Binders.{names, twice, rootScope}
 use Rattle.binders.specs.Memos.{Known, Doubled, Live, scopeOf}
 use Rattle.typing.specs.Check.{andThen, agree, check, checkFun}
-use Rattle.typing.specs.Cycle.{Among, Rows, Scoped, Enough, Stays}
+use Rattle.typing.specs.Cycle.{Among, Rows, Stays}
 use Rattle.typing.specs.Whole.{inOrder, valueAt, functionAt, checking, answerOf, checkOf}
-use Rattle.typing.specs.declared.CheckAnswer.{CheckAnswer}
 use Rattle.typing.specs.declared.CheckAnswer.the-variants as answers
 use Rattle.typing.specs.declared.cycle.Checked.{Checked}
 use Rattle.typing.specs.declared.cycle.Checked.the-variants.{Passed, Refused}
-use Rattle.typing.proofs.Steps.{Going, going-next, going-halt, stays-of, both-then, both-halt}
 
 -- a record of a valid book
 pub among-of : {b i : List ℕ} {n r : ℕ} → Valid b i n → r < n → Among b i r

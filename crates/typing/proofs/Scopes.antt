@@ -1,19 +1,15 @@
 -- Laws of the row of live bindings: it makes the same scope as long as they stay, and one more makes the scope wider.
 -- Assumes nothing.
-use Prim.Native.Nat.{ℕ, zero, suc, _+_, _*_, _≤_, _<_}
-use mathlib.Core.List.{List, [], _∷_}
-use mathlib.Core.Path.{_≡_, refl, sym, ap, ap₂, _∙_}
-use mathlib.Core.Logic.{_⊎_}
+use Prim.Native.Nat.{ℕ, zero, suc, _+_, _*_, _<_}
+use mathlib.Core.List.{List, _∷_}
+use mathlib.Core.Path.{_≡_, refl, _∙_}
 use native.Mathlib.Omega.{arith}
 use native.Mathlib.Numerals.{add-one}
 use lib.ListN.{length, getD, set, length-set}
 use lib.Seq.{getD-set-same, getD-set-other}
 use Rattle.laws.specs.Order.{by-lt}
-use Rattle.book.specs.Format.{TYPE, PATTERN, FUNCTION}
-use Rattle.book.specs.Stands.{Stands}
 use Rattle.book.specs.Tree.{typeOf, patternOf}
-use Rattle.shapes.specs.Views.{NONE}
-use Rattle.binders.specs.Binders.{Binding, binding}
+use Rattle.binders.specs.Binders.{binding}
 use Rattle.binders.specs.Memos.{Known, Binds, Live, scopeOf}
 use Rattle.typing.specs.Cycle.{Rows, Scoped, Stays, Holds}
 use Rattle.typing.specs.declared.cycle.Checked.{Checked}

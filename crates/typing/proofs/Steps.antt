@@ -1,8 +1,8 @@
 -- The steps of CHECK's cycle: what each function makes of the judgements that it calls.
 -- Assumes nothing.
-use Prim.Native.Nat.{ℕ, zero, suc, _+_, _-_, _*_, _≤_, _<_}
+use Prim.Native.Nat.{ℕ, suc, _+_, _-_, _*_, _≤_, _<_}
 use mathlib.Core.Bool.{Bool, true, false}
-use mathlib.Core.List.{List, [], _∷_}
+use mathlib.Core.List.{List, _∷_}
 use mathlib.Core.Option.{Option, some, none}
 use mathlib.Core.Path.{_≡_, refl, sym, ap, ap₂, _∙_}
 use native.Mathlib.Nat.{mul-suc}
@@ -10,27 +10,27 @@ use native.Mathlib.Omega.{arith}
 use native.Mathlib.Numerals.{add-one}
 use borrow.Author.Tests.{eq-eqb, ne-eqb}
 use lib.Dec.{T, eqb}
-use lib.ListN.{length, getD}
+use lib.ListN.{length}
 use Rattle.laws.specs.Table.{pick, all-below, true-false}
 use Rattle.simplicity.specs.Types.{Ty, one, same}
-use Rattle.book.specs.Format.{TYPE, EXPRESSION, STATEMENT, SA, EB, EM, EH, EV, CK, TS}
+use Rattle.book.specs.Format.{TYPE, STATEMENT, SA, EB, EM, EH, EV, CK}
 use Rattle.book.specs.Index.{mark, field}
 use Rattle.book.specs.Stands.{Stands}
 use Rattle.book.specs.Tree.{typeOf, patternOf, exprOf}
 use Rattle.book.specs.declared.fault.Refusal.{Refusal}
-use Rattle.parts.specs.Parts.{Marked, Spanned, spanAt}
+use Rattle.parts.specs.Parts.{Marked, Spanned}
 use Rattle.parts.specs.declared.view.Span.{Span}
 use Rattle.shapes.specs.Shapes.{typeIs, sums, placeOf, isThere, hasPlaces, whole}
 use Rattle.shapes.specs.Views.{Gives, nowhere, record-of}
 use Rattle.binders.specs.Binders.{Binding, binding}
-use Rattle.binders.specs.Memos.{Known, Live, scopeOf}
+use Rattle.binders.specs.Memos.{Live, scopeOf}
 use Rattle.typing.specs.Check.{andThen, agree, binds, there, variantType, check, statements}
-use Rattle.typing.specs.Cycle.{Rows, Scoped, Enough, Stays, Holds, Bound, Stated, Arms, Places, checksAt, rowOf, armOf, armsFrom, matchOf, stmtsOf, blockOf, statementOf, enteredOf, liveAfter, partsOf}
+use Rattle.typing.specs.Cycle.{Rows, Scoped, Stays, Bound, Stated, Places, checksAt, rowOf, armOf, armsFrom, matchOf, stmtsOf, blockOf, statementOf, enteredOf, liveAfter, partsOf}
 use Rattle.typing.specs.declared.cycle.Checked.{Checked}
 use Rattle.typing.specs.declared.cycle.Checked.the-variants.{Passed, Refused}
 use Rattle.typing.proofs.Judging.{stays-start, stays-as, stays-on, stays-next, stays-halt}
 use Rattle.typing.proofs.Marks.{parts-is, stmts-next, end-none, end-some}
-use Rattle.typing.proofs.Facts.{checks-next, checks-none}
+use Rattle.typing.proofs.Facts.{checks-next}
 use Rattle.typing.proofs.Scopes.{stays-scope, stays-scoped}
 
 -- a test that holds

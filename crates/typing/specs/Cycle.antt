@@ -2,8 +2,8 @@
 -- Assumes nothing.
 use Prim.Native.Nat.{ℕ, zero, suc, _+_, _*_, _≤_, _<_}
 use mathlib.Core.Path.{_≡_}
-use mathlib.Core.Bool.{Bool, true}
-use mathlib.Core.List.{List, [], _∷_}
+use mathlib.Core.Bool.{true}
+use mathlib.Core.List.{List, _∷_}
 use lib.Dec.{eqb}
 use lib.ListN.{length, getD}
 use Rattle.laws.specs.Table.{pick}
@@ -19,7 +19,7 @@ use Rattle.binders.specs.Binders.{names, twice, Binding, binding}
 use Rattle.binders.specs.Memos.{Known, Live, scopeOf}
 use Rattle.typing.specs.Check.{andThen, agree, binds, variantType, check, statements}
 use Rattle.typing.specs.declared.cycle.Checked.{Checked}
-use Rattle.typing.specs.declared.cycle.Checked.the-variants.{Passed, Refused}
+use Rattle.typing.specs.declared.cycle.Checked.the-variants.{Passed}
 
 -- one of a valid book's records
 pub record Among (b i : List ℕ) (r : ℕ) : Type 0 where

@@ -1,6 +1,5 @@
 -- `may_have` meets its contract: the name was sought there in vain, or the pattern is another name, or it is neither a name nor a row.
 -- Assumes nothing.
-use borrow.Author.Needs.{needs}
 use Rattle.book.proofs.Standing.{stands-begins}
 use Rattle.pattern.proofs.Memos.{memo-fits}
 use Rattle.pattern.proofs.Records.{name-lies}

@@ -1,6 +1,5 @@
 -- `agree` meets its contract.
 -- Assumes nothing.
-use mathlib.Core.Path.{refl}
 use Rattle.typing.proofs.cycle.agree.Statement.{statement}
 use Rattle.typing.proofs.cycle.agree.Tie as tie
 

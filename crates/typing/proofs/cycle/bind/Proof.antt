@@ -1,6 +1,6 @@
 -- `bind` meets its contract: by whether the pattern fits and has a name twice.
 -- Assumes nothing.
-use mathlib.Core.Path.{refl, sym, _∙_}
+use mathlib.Core.Path.{sym, _∙_}
 use native.Mathlib.Omega.{arith}
 use borrow.Author.Tests.{not-true, not-false}
 use Rattle.typing.proofs.Scopes.{second-fits, wider-length}

@@ -1,6 +1,5 @@
 -- `function` meets its contract: its parameter names, its body, and what it gives.
 -- Assumes nothing.
-use mathlib.Core.Path.{refl, sym, _∙_}
 use native.Mathlib.Omega.{arith}
 use Rattle.typing.proofs.Facts.{params-lie, params-most, gives-lies, body-lies, body-part}
 use Rattle.typing.proofs.Steps.{memo-length, missing-length}
