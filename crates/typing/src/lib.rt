@@ -11,6 +11,7 @@ use crate::cycle::Checked;
 use crate::cycle::agree;
 use crate::cycle::expression;
 use crate::cycle::function;
+use binders::doubles;
 use book::fault::ReadAnswer;
 use book::fault::Refusal;
 use book::format::FUNCTION;
@@ -18,7 +19,6 @@ use book::format::VALUE;
 use book::format::kind_of;
 use book::read::index_book;
 use book::record::mark_at;
-use binders::doubles;
 use shapes::part::NONE;
 use shapes::whole::value_agrees;
 
@@ -61,7 +61,15 @@ fn records(book: &[u8], index: &[u16], n: u16) -> Checked
     let mut memo = [0u32; 524288];
     let mut missing = [0u8; 4096];
     let mut bindings = [0u16; 130560];
-    expressions(book, index, n, &doubled, &mut memo, &mut missing, &mut bindings)
+    expressions(
+        book,
+        index,
+        n,
+        &doubled,
+        &mut memo,
+        &mut missing,
+        &mut bindings,
+    )
 }
 
 // The functions, and then the root.
