@@ -22,14 +22,14 @@ use Rattle.book.proofs.Standing.{stands-mark, stands-tree, head-lies, head-stan
 use Rattle.parts.specs.Parts.{Spanned, spanAt}
 use Rattle.parts.specs.declared.view.Span.{Span}
 use Rattle.shapes.specs.Shapes.{typeIs, endType, rowType, listType, sums, isThere, isAt, placeOf, elementOf, hasPlaces, allAre, isListOf, whole}
-use Rattle.shapes.specs.Views.{Bound, Gives, sideIs}
-use Rattle.shapes.specs.Wholes.{Row, Typed, typesAt}
+use Rattle.shapes.specs.Views.{ListBound, Gives, sideIs}
+use Rattle.shapes.specs.Wholes.{Elements, Declares, typesAt}
 use Rattle.shapes.proofs.Same.{one-test, types-same, gives-at}
 use Rattle.shapes.proofs.Declared.{expr-declares}
 use Rattle.shapes.proofs.Walks.{Tests}
 use Rattle.shapes.proofs.Rows.{types-at, arms-at}
 
-module _ {b i : List ℕ} {r m t : ℕ} (g : Typed b i r m t) where
+module _ {b i : List ℕ} {r m t : ℕ} (g : Declares b i r m t) where
   -- the declared type stands; the head's fields lie, name what the table says, and are in range: at a mark that is written out the tests compute
   pub typed-stands : Stands b i t TYPE
   typed-stands = rw (g .is) (expr-declares (g .marked .stands) .stands)
@@ -88,36 +88,36 @@ same-turned : (a c : Ty) → same a c ≡ same c a
 same-turned a c = one-test (same a c) (same c a) (λ e. is-same c a (sym (same-is a c e))) (λ e. is-same a c (sym (same-is c a e)))
 
 -- a constant
-pub constant-is : {b i : List ℕ} {r t p : ℕ} → Typed b i r EC t → Is b i p (declaredOf b i (field b i r 1)) → Tests (whole (exprOf b i r)) (same (typeOf b i p) (typeOf b i t) ∷ [])
+pub constant-is : {b i : List ℕ} {r t p : ℕ} → Declares b i r EC t → Is b i p (declaredOf b i (field b i r 1)) → Tests (whole (exprOf b i r)) (same (typeOf b i p) (typeOf b i t) ∷ [])
 unfolding whole asExpr
 constant-is g e = record { is = ap whole (made g) ∙ rw (g .is, e .1) }
 
 module _ {b i : List ℕ} {r t p : ℕ} where
   -- debug, a cast, assert, IsNone
-  pub debug-is : Typed b i r CD t → Part b i r 2 p → Tests (whole (exprOf b i r)) (same (typeOf b i p) (typeOf b i t) ∷ [])
+  pub debug-is : Declares b i r CD t → Part b i r 2 p → Tests (whole (exprOf b i r)) (same (typeOf b i p) (typeOf b i t) ∷ [])
   unfolding whole asExpr
   debug-is g e = record { is = ap whole (made g) ∙ rw (g .is, e .1) }
 
-  pub cast-is : Typed b i r CK t → Part b i r 1 p → Tests (whole (exprOf b i r)) (same (typeOf b i p) (typeOf b i t) ∷ [])
+  pub cast-is : Declares b i r CK t → Part b i r 1 p → Tests (whole (exprOf b i r)) (same (typeOf b i p) (typeOf b i t) ∷ [])
   unfolding whole asExpr
   cast-is g e = record { is = ap whole (made g) ∙ rw (g .is, e .1) }
 
-  pub assert-is : Typed b i r CA t → Part b i r 2 p → Tests (whole (exprOf b i r)) (same (typeOf b i p) two ∷ same (typeOf b i t) one ∷ [])
+  pub assert-is : Declares b i r CA t → Part b i r 2 p → Tests (whole (exprOf b i r)) (same (typeOf b i p) two ∷ same (typeOf b i t) one ∷ [])
   unfolding whole asExpr
   assert-is g e = record { is = ap whole (made g) ∙ rw (g .is, e .1) }
 
-  pub is-none-is : Typed b i r CN t → Part b i r 1 p → Tests (whole (exprOf b i r)) (isThere (sideIs TS 0 (typeOf b i p)) ∷ same (typeOf b i t) two ∷ [])
+  pub is-none-is : Declares b i r CN t → Part b i r 1 p → Tests (whole (exprOf b i r)) (isThere (sideIs TS 0 (typeOf b i p)) ∷ same (typeOf b i t) two ∷ [])
   unfolding whole asExpr
   is-none-is g e = record { is = ap whole (made g) ∙ rw (g .is, e .1) }
 
   -- left or right of a part; an unwrapped part
-  pub injection-is : (k : ℕ) → Typed b i r (E0 + k) t → k < 2 → Part b i r 1 p → Tests (whole (exprOf b i r)) (isAt (sideIs TS k (typeOf b i t)) (typeOf b i p) ∷ [])
+  pub injection-is : (k : ℕ) → Declares b i r (E0 + k) t → k < 2 → Part b i r 1 p → Tests (whole (exprOf b i r)) (isAt (sideIs TS k (typeOf b i t)) (typeOf b i p) ∷ [])
   unfolding whole asExpr
   injection-is zero g h e = record { is = ap whole (made g) ∙ rw (g .is, e .1) }
   injection-is (suc zero) g h e = record { is = ap whole (made g) ∙ rw (g .is, e .1) }
   injection-is (suc (suc k)) g h e = absurd (omega arith)
 
-  pub unwrap-is : (k : ℕ) → Typed b i r (CL + k) t → k < 2 → Part b i r 2 p → Tests (whole (exprOf b i r)) (isAt (sideIs TS k (typeOf b i p)) (typeOf b i t) ∷ [])
+  pub unwrap-is : (k : ℕ) → Declares b i r (CL + k) t → k < 2 → Part b i r 2 p → Tests (whole (exprOf b i r)) (isAt (sideIs TS k (typeOf b i p)) (typeOf b i t) ∷ [])
   unfolding whole asExpr
   unwrap-is zero g h e = record { is = ap whole (made g) ∙ rw (g .is, e .1) }
   unwrap-is (suc zero) g h e = record { is = ap whole (made g) ∙ rw (g .is, e .1) }
@@ -125,18 +125,18 @@ module _ {b i : List ℕ} {r t p : ℕ} where
 
 -- the part of either
 module _ {b i : List ℕ} {r t : ℕ} where
-  pub injection-part : (k : ℕ) → Typed b i r (E0 + k) t → k < 2 → Lies b i r 1 × Stands b i (field b i r 1) EXPRESSION
+  pub injection-part : (k : ℕ) → Declares b i r (E0 + k) t → k < 2 → Lies b i r 1 × Stands b i (field b i r 1) EXPRESSION
   injection-part zero g h = (typed-lies g 1 tt, names g 1 tt tt)
   injection-part (suc zero) g h = (typed-lies g 1 tt, names g 1 tt tt)
   injection-part (suc (suc k)) g h = absurd (omega arith)
 
-  pub unwrap-part : (k : ℕ) → Typed b i r (CL + k) t → k < 2 → Lies b i r 2 × Stands b i (field b i r 2) EXPRESSION
+  pub unwrap-part : (k : ℕ) → Declares b i r (CL + k) t → k < 2 → Lies b i r 2 × Stands b i (field b i r 2) EXPRESSION
   unwrap-part zero g h = (typed-lies g 2 tt, names g 2 tt tt)
   unwrap-part (suc zero) g h = (typed-lies g 2 tt, names g 2 tt tt)
   unwrap-part (suc (suc k)) g h = absurd (omega arith)
 
   -- a match: its two arms are a row
-  pub arms-row : Typed b i r EM t → Row b i r 2 3 2
+  pub arms-row : Declares b i r EM t → Elements b i r 2 3 2
   arms-row g = record { few = omega arith; low = omega arith; near = omega arith; each = each }
     where
       each : (j : ℕ) → j < 2 → Lies b i r (3 + 2 * j) × Stands b i (field b i r (3 + 2 * j)) EXPRESSION
@@ -144,7 +144,7 @@ module _ {b i : List ℕ} {r t : ℕ} where
       each (suc zero) h = (typed-lies g 5 tt, names g 5 tt tt)
       each (suc (suc j)) h = absurd (omega arith)
 
-  pub match-is : Typed b i r EM t → Tests (whole (exprOf b i r)) (allAre (typeOf b i t) (typesAt b i r 2 3 2) ∷ [])
+  pub match-is : Declares b i r EM t → Tests (whole (exprOf b i r)) (allAre (typeOf b i t) (typesAt b i r 2 3 2) ∷ [])
   unfolding whole asExpr typesAt group
   match-is g = record { is = ap whole (made g) ∙ rw (g .is) }
 
@@ -154,43 +154,43 @@ spanTypes b i r p = typesAt b i r (p .stride) (p .from) (p .count)
 
 -- constructs of a row, whose span is p
 module _ {b i : List ℕ} {r t : ℕ} where
-  pub tuple-is : {p : Span} → Typed b i r ET t → Spanned b i r ET p → Tests (whole (exprOf b i r)) (same (typeOf b i t) (rowType (spanTypes b i r p)) ∷ [])
+  pub tuple-is : {p : Span} → Declares b i r ET t → Spanned b i r ET p → Tests (whole (exprOf b i r)) (same (typeOf b i t) (rowType (spanTypes b i r p)) ∷ [])
   unfolding whole asExpr spanAt
   tuple-is g s = record { is = ap whole (made g) ∙ rw (g .is, s .is, types-at b i r (field b i r 1) 2) }
 
-  pub arms-is : {p : Span} → Typed b i r EH t → Spanned b i r EH p → Tests (whole (exprOf b i r)) (allAre (typeOf b i t) (spanTypes b i r p) ∷ [])
+  pub arms-is : {p : Span} → Declares b i r EH t → Spanned b i r EH p → Tests (whole (exprOf b i r)) (allAre (typeOf b i t) (spanTypes b i r p) ∷ [])
   unfolding whole asExpr spanAt
   arms-is g s = record { is = ap whole (made g) ∙ rw (g .is, s .is, arms-at b i r (field b i r 2) 3 4 refl) }
 
   -- a list of bound n: no element type, or a
-  pub list-none : {n : ℕ} → Typed b i r EL t → n ≡ field b i r 1 → elementOf (topOf n) (typeOf b i t) ≡ none → false ≡ whole (exprOf b i r)
+  pub list-none : {n : ℕ} → Declares b i r EL t → n ≡ field b i r 1 → elementOf (topOf n) (typeOf b i t) ≡ none → false ≡ whole (exprOf b i r)
   unfolding whole asExpr isListOf
   list-none g z e = sym (ap whole (made g) ∙ rw (← z, ← g .is, e))
 
-  pub list-is : {n : ℕ} {a : Ty} {p : Span} → Typed b i r EL t → n ≡ field b i r 1 → Spanned b i r EL p → elementOf (topOf n) (typeOf b i t) ≡ some a → Tests (whole (exprOf b i r)) (same (typeOf b i t) (listType a n) ∷ allAre a (spanTypes b i r p) ∷ [])
+  pub list-is : {n : ℕ} {a : Ty} {p : Span} → Declares b i r EL t → n ≡ field b i r 1 → Spanned b i r EL p → elementOf (topOf n) (typeOf b i t) ≡ some a → Tests (whole (exprOf b i r)) (same (typeOf b i t) (listType a n) ∷ allAre a (spanTypes b i r p) ∷ [])
   unfolding whole asExpr isListOf spanAt
   list-is g z s e = record { is = ap whole (made g) ∙ rw (s .is, types-at b i r (field b i r 2) 3, ← z, ← g .is, e) }
 
   -- a variant: place k of n
-  pub variant-is : {n k : ℕ} {p : Span} → Typed b i r EN t → n ≡ field b i r 2 → k ≡ field b i r 1 → Spanned b i r EN p → Tests (whole (exprOf b i r)) (hasPlaces n (typeOf b i t) ∷ isAt (placeOf sums n k (typeOf b i t)) (rowType (spanTypes b i r p)) ∷ [])
+  pub variant-is : {n k : ℕ} {p : Span} → Declares b i r EN t → n ≡ field b i r 2 → k ≡ field b i r 1 → Spanned b i r EN p → Tests (whole (exprOf b i r)) (hasPlaces n (typeOf b i t) ∷ isAt (placeOf sums n k (typeOf b i t)) (rowType (spanTypes b i r p)) ∷ [])
   unfolding whole asExpr spanAt
   variant-is g z o s = record { is = ap whole (made g) ∙ rw (g .is, s .is, z, o, types-at b i r (field b i r 3) 4) }
 
   -- the range of a list's bound, of a variant's index and of how many there are
-  pub list-bound : {n : ℕ} → Typed b i r EL t → n ≡ field b i r 1 → Bound n
+  pub list-bound : {n : ℕ} → Declares b i r EL t → n ≡ field b i r 1 → ListBound n
   unfolding inRange
   list-bound g z = rw z (ranged g 1 tt)
 
-  variant-range : Typed b i r EN t → T (both (ltb (field b i r 1) (field b i r 2)) (leb (field b i r 2) 256))
+  variant-range : Declares b i r EN t → T (both (ltb (field b i r 1) (field b i r 2)) (leb (field b i r 2) 256))
   unfolding inRange
   variant-range g =
       let o : T (both (ltb (wordAt b (getD i r 0 + 2 * (1 + 1))) (field b i r 2)) (leb (field b i r 2) 256)) = ranged g 2 tt in
       rw (field-before b (getD i r 0) 1) at o
 
-  pub variant-under : {n k : ℕ} → Typed b i r EN t → n ≡ field b i r 2 → k ≡ field b i r 1 → k < n
+  pub variant-under : {n k : ℕ} → Declares b i r EN t → n ≡ field b i r 2 → k ≡ field b i r 1 → k < n
   variant-under g z o = rw (z, o) (ltb→lt _ _ (both-left (ltb (field b i r 1) (field b i r 2)) _ (variant-range g)))
 
-  pub variant-most : {n : ℕ} → Typed b i r EN t → n ≡ field b i r 2 → n ≤ 256
+  pub variant-most : {n : ℕ} → Declares b i r EN t → n ≡ field b i r 2 → n ≤ 256
   variant-most g z = rw z (leb→le _ _ (both-right (ltb (field b i r 1) (field b i r 2)) _ (variant-range g)))
 
 -- a statement does not change what a block ends in
@@ -201,7 +201,7 @@ stmt-end {b} {i} {s} h rest = every (SA ∷ SE ∷ []) (λ m. mark b i s ≡ m �
     (mark b i s) (stands-mark h (among (SA ∷ SE ∷ [])) tt tt) refl
 
 -- a block: its statements, what it ends in, and where that stands
-module _ {b i : List ℕ} {r t : ℕ} (g : Typed b i r EB t) where
+module _ {b i : List ℕ} {r t : ℕ} (g : Declares b i r EB t) where
   stmts-end : (n k : ℕ) (rest : Stmts) → ((j : ℕ) → j < n → Stands b i (field b i r (k + j)) STATEMENT) → endType (group 1 rest (λ j. stmtOf b i (field b i r j)) k n) ≡ endType rest
   unfolding group
   stmts-end zero k rest h = refl

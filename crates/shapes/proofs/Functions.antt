@@ -22,8 +22,8 @@ use Rattle.parts.specs.Parts.{Marked, Spanned, spanAt}
 use Rattle.parts.specs.declared.view.Span.{Span}
 use Rattle.parts.proofs.Marks.{most}
 use Rattle.shapes.specs.Shapes.{typeIs, takes, gives, arrayType, listType, wordType, isAt, allAre, sameAll, folds, loops, jetTakes, jetGives, whole}
-use Rattle.shapes.specs.Views.{Bound, sideIs}
-use Rattle.shapes.specs.Wholes.{Row, Typed, Folding, typesAt, takesAt, wordsAt, accumulates, resultType}
+use Rattle.shapes.specs.Views.{ListBound, sideIs}
+use Rattle.shapes.specs.Wholes.{Elements, Declares, Folding, typesAt, takesAt, wordsAt, accumulates, resultType}
 use Rattle.shapes.proofs.Sides.{same-not, same-product}
 use Rattle.shapes.proofs.Walks.{Tests}
 use Rattle.shapes.proofs.Rows.{types-at, params-at, words-at, types-length, takes-length, same-length, same-replicate}
@@ -59,7 +59,7 @@ module _ {b i : List ℕ} {f : ℕ} (s : Stands b i f FUNCTION) where
   gives-is = ap (λ x. gives (asFun x)) (stands-tree s FN (function-mark s))
 
 -- argument k of a call
-pub argument : {b i : List ℕ} {r k n j : ℕ} → Row b i r 1 k n → j < n → Lies b i r (k + j) × Stands b i (field b i r (k + j)) EXPRESSION
+pub argument : {b i : List ℕ} {r k n j : ℕ} → Elements b i r 1 k n → j < n → Lies b i r (k + j) × Stands b i (field b i r (k + j)) EXPRESSION
 argument {j = j} w h = let z : 1 * j ≡ j = omega arith in rw z at (w .each j h)
 
 -- a fold's function takes two, a loop's three
@@ -85,14 +85,14 @@ power-among lo hi x t = both-right (within lo hi x) (among powers x) t
 
 module _ {b i : List ℕ} {r t : ℕ} where
   -- a call: its arguments are a row
-  pub call-row : {n : ℕ} → Typed b i r CF t → n ≡ field b i r 2 → Row b i r 1 3 n
+  pub call-row : {n : ℕ} → Declares b i r CF t → n ≡ field b i r 2 → Elements b i r 1 3 n
   call-row {n} g o = record { few = rw o (most (g .marked) 2 tt refl); low = omega arith; near = omega arith; each = each }
     where
       each : (j : ℕ) → j < n → Lies b i r (3 + 1 * j) × Stands b i (field b i r (3 + 1 * j)) EXPRESSION
       each j h = (each-lies (g .marked .stands) CF (g .marked .is) (3 + 1 * j) j 0 (omega arith) (omega arith) tt, each-stands (g .marked .stands) CF (g .marked .is) (3 + 1 * j) j 0 (omega arith) (omega arith) tt tt)
 
   -- its function stands; arguments as many as it takes, and what it gives
-  module _ (g : Typed b i r CF t) {f : ℕ} (z : f ≡ field b i r 1) where
+  module _ (g : Declares b i r CF t) {f : ℕ} (z : f ≡ field b i r 1) where
     pub call-function : Stands b i f FUNCTION
     call-function = rw z (names g 1 tt tt)
 
@@ -108,7 +108,7 @@ module _ {b i : List ℕ} {r t : ℕ} where
       call-is e = record { is = call-whole ∙ rw (← w, e, ← o) }
 
   -- a hash of n words, each of which lies, is of a power of two's width, and is an expression
-  pub hash-is : {n : ℕ} → Typed b i r CH t → n ≡ field b i r 2 → Tests (whole (exprOf b i r)) (wordsAt b i r 3 n ∷ same (typeOf b i t) (wordType 256) ∷ [])
+  pub hash-is : {n : ℕ} → Declares b i r CH t → n ≡ field b i r 2 → Tests (whole (exprOf b i r)) (wordsAt b i r 3 n ∷ same (typeOf b i t) (wordType 256) ∷ [])
   unfolding whole asExpr
   hash-is g z = record { is = ap whole (made g) ∙ rw (g .is, z, words-at b i r (field b i r 2) 3) }
 
@@ -158,19 +158,19 @@ pub record Fold (b i : List ℕ) (r t : ℕ) (over : ℕ → Ty → Ty) : Type 0
 
 module _ {b i : List ℕ} {r t : ℕ} where
   -- over lists, of a bound; over arrays, of a size
-  pub list-fold : Typed b i r CQ t → Fold b i r t (λ n x. listType x n)
+  pub list-fold : Declares b i r CQ t → Fold b i r t (λ n x. listType x n)
   unfolding whole asExpr
   list-fold g = record { is = ap whole (made g) ∙ rw (g .is); function = names g 1 tt tt; lies = typed-lies g 4 tt; start = names g 4 tt tt; type = typed-stands g }
 
-  pub array-fold : Typed b i r CY t → Fold b i r t (λ n x. arrayType x n)
+  pub array-fold : Declares b i r CY t → Fold b i r t (λ n x. arrayType x n)
   unfolding whole asExpr
   array-fold g = record { is = ap whole (made g) ∙ rw (g .is); function = names g 1 tt tt; lies = typed-lies g 4 tt; start = names g 4 tt tt; type = typed-stands g }
 
-  pub fold-bound : {n : ℕ} → Typed b i r CQ t → n ≡ field b i r 2 → Bound n
+  pub fold-bound : {n : ℕ} → Declares b i r CQ t → n ≡ field b i r 2 → ListBound n
   unfolding inRange
   fold-bound g o = rw o (ranged g 2 tt)
 
-  pub fold-size : {n : ℕ} → Typed b i r CY t → n ≡ field b i r 2 → (1 ≤ n) × (n ≤ 256)
+  pub fold-size : {n : ℕ} → Declares b i r CY t → n ≡ field b i r 2 → (1 ≤ n) × (n ≤ 256)
   unfolding inRange within
   fold-size g o =
       let w : T (within 1 256 (field b i r 2)) = ranged g 2 tt in
@@ -192,7 +192,7 @@ module _ {b i : List ℕ} {r t f : ℕ} {over : ℕ → Ty → Ty} (w : Fold b i
     fold-is e o y a = record { is = w .is ∙ rw (← z, folds-is fold-function (over (field b i r 2)) r t (typeIs (exprOf b i (field b i r 3))) (sym q ∙ e), a .1, y, o) }
 
 -- a loop and its function f
-module _ {b i : List ℕ} {r t f : ℕ} (g : Typed b i r CW t) (z : f ≡ field b i r 1) where
+module _ {b i : List ℕ} {r t f : ℕ} (g : Declares b i r CW t) (z : f ≡ field b i r 1) where
   pub loop-function : Stands b i f FUNCTION
   loop-function = rw z (names g 1 tt tt)
 
@@ -211,7 +211,7 @@ pub record Looping (b i : List ℕ) (r t f w a x y : ℕ) : Type 0 where
   pub context : Stands b i x TYPE
   pub counter : Stands b i y TYPE
 
-pub looping : {b i : List ℕ} {r t f c w a x y : ℕ} → Typed b i r CW t → f ≡ field b i r 1 → c ≡ field b i f 1 → c ≡ 3 → w ≡ field b i r 2 → a ≡ field b i f 3 → x ≡ field b i f 5 → y ≡ field b i f 7 → Looping b i r t f w a x y
+pub looping : {b i : List ℕ} {r t f c w a x y : ℕ} → Declares b i r CW t → f ≡ field b i r 1 → c ≡ field b i f 1 → c ≡ 3 → w ≡ field b i r 2 → a ≡ field b i f 3 → x ≡ field b i f 5 → y ≡ field b i f 7 → Looping b i r t f w a x y
 unfolding whole asExpr loops takesAt group
 looping g z n e o p q u =
     let s = loop-function g z in
@@ -242,7 +242,7 @@ usual (suc (suc zero)) h = record { some = omega arith; word = tt; result = tt; 
 usual (suc (suc (suc j))) h = absurd (omega arith)
 
 -- a jet j, which q is
-module _ {b i : List ℕ} {r t j : ℕ} (g : Typed b i r CJ t) (z : j ≡ field b i r 2) where
+module _ {b i : List ℕ} {r t j : ℕ} (g : Declares b i r CJ t) (z : j ≡ field b i r 2) where
   pub jet-number : j ≤ 2
   unfolding inRange
   jet-number = rw z (leb→le (field b i r 2) 2 (ranged g 2 tt))

@@ -15,7 +15,7 @@ use Rattle.book.specs.Index.{mark, field}
 use Rattle.book.specs.Stands.{Stands}
 use Rattle.book.specs.Tree.{typeOf}
 use Rattle.shapes.specs.Shapes.{onward, elementOf, blockType, listType}
-use Rattle.shapes.specs.Views.{NONE, Gives, nowhere, Bound, sideIs}
+use Rattle.shapes.specs.Views.{NONE, Gives, nowhere, ListBound, sideIs}
 use Rattle.shapes.proofs.Sides.{first-fails, first-holds, side-at, side-is, side-not, same-not, same-product}
 use Rattle.shapes.proofs.Powers.{half-power, half-top, bound-power, bound-more, Down, down-is, down-next, down-end}
 
@@ -27,7 +27,7 @@ abbrev pub isLists : Ty → ℕ → Ty → Bool
 isLists a k t = same t (fewer a k)
 
 -- half a list's bound is where both begin
-module _ {b i : List ℕ} {t : ℕ} (s : Stands b i t TYPE) (n : ℕ) (h : Bound n) where
+module _ {b i : List ℕ} {t : ℕ} (s : Stands b i t TYPE) (n : ℕ) (h : ListBound n) where
   pub element-start : Down b i lastOf (elementOf (topOf n) (typeOf b i t)) t (n / 2)
   element-start = record { stands = s; power = half-power (bound-power n h) (bound-more n h); is = ap (λ k. elementOf k (typeOf b i t)) (half-top (bound-power n h) (bound-more n h)) }
 

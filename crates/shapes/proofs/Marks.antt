@@ -18,17 +18,17 @@ use Rattle.book.proofs.Standing.{stands-mark, stands-tree, head-lies, head-stan
 use Rattle.parts.specs.Parts.{Marked}
 use Rattle.shapes.specs.Shapes.{isAt, whole}
 use Rattle.shapes.specs.Views.{sideIs}
-use Rattle.shapes.specs.Wholes.{Typed, valueAgrees}
+use Rattle.shapes.specs.Wholes.{Declares, valueAgrees}
 use Rattle.shapes.proofs.Sides.{same-not, same-product}
 use Rattle.shapes.proofs.Declared.{value-declares}
 use Rattle.shapes.proofs.Walks.{Tests}
 use Rattle.shapes.proofs.Constructs.{Is}
 
 -- the mark is n, of a record whose declared type is known and of one whose first field was read
-pub typed-at : {b i : List ℕ} {r m t : ℕ} → Typed b i r m t → (n : ℕ) → m ≡ n → Typed b i r n t
+pub typed-at : {b i : List ℕ} {r m t : ℕ} → Declares b i r m t → (n : ℕ) → m ≡ n → Declares b i r n t
 typed-at g n e = rw (← e) g
 
-pub typed-as : {b i : List ℕ} {r m t : ℕ} → Marked b i r m → t ≡ field b i r 0 → (n : ℕ) → m ≡ n → Typed b i r n t
+pub typed-as : {b i : List ℕ} {r m t : ℕ} → Marked b i r m → t ≡ field b i r 0 → (n : ℕ) → m ≡ n → Declares b i r n t
 typed-as g z n e = rw (← e) (record { marked = g; is = z })
 
 -- the marks of calls and of other expressions, but for those of which nothing is asked

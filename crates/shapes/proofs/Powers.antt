@@ -12,7 +12,7 @@ use Rattle.simplicity.specs.Types.{Ty}
 use Rattle.book.specs.Format.{TYPE, powers, powerIn, within}
 use Rattle.book.specs.Stands.{Stands}
 use Rattle.book.specs.Tree.{typeOf}
-use Rattle.shapes.specs.Views.{Bound}
+use Rattle.shapes.specs.Views.{ListBound}
 
 -- a power of two is 1, or its half is one, whose top bit is one place lower
 abbrev halves : ℕ → Bool
@@ -36,11 +36,11 @@ module _ {x : ℕ} (p : T (among powers x)) where
   last-power h = eqb→eq x 1 (rw (le-ltb 1 x h) at (all-halves x p))
 
 -- a list's bound is a power of two above 1
-pub bound-power : (n : ℕ) → Bound n → T (among powers n)
+pub bound-power : (n : ℕ) → ListBound n → T (among powers n)
 unfolding powerIn
 bound-power n t = both-right (within 2 256 n) (among powers n) t
 
-pub bound-more : (n : ℕ) → Bound n → 1 < n
+pub bound-more : (n : ℕ) → ListBound n → 1 < n
 unfolding powerIn within
 bound-more n t = leb→le 2 n (both-left (leb 2 n) (leb n 256) (both-left (within 2 256 n) (among powers n) t))
 

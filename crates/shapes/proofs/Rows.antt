@@ -19,21 +19,21 @@ use Rattle.parts.specs.Parts.{Marked, Spanned, rowMarks}
 use Rattle.parts.specs.declared.view.Span.{Span}
 use Rattle.parts.proofs.Spans.{span-lies, span-stands}
 use Rattle.shapes.specs.Shapes.{typeIs, types, armTypes, paramTypes, areWords, allAre, sameAll, rowType, wordType, products, placeOf, isAt}
-use Rattle.shapes.specs.Wholes.{Row, typesAt, takesAt, wordsAt}
+use Rattle.shapes.specs.Wholes.{Elements, typesAt, takesAt, wordsAt}
 use Rattle.shapes.proofs.Same.{one-test}
 use Rattle.shapes.proofs.Places.{row-places, places-row}
 use Rattle.shapes.proofs.Walks.{walk, walk-is, each-walk, walk-each}
 
 module _ {b i : List ℕ} {r : ℕ} where
   -- the fields of a row are near
-  pub row-near : {s k n j : ℕ} → Row b i r s k n → j < n → s * j ≤ 512
+  pub row-near : {s k n j : ℕ} → Elements b i r s k n → j < n → s * j ≤ 512
   row-near {s} {k} {n} {j} w h = le-trans (mul-le-mul (w .near) (less w h)) (omega arith)
     where
-      less : Row b i r s k n → j < n → j ≤ 256
+      less : Elements b i r s k n → j < n → j ≤ 256
       less v o = omega (arith, v .few)
 
   -- the span of a record is a row
-  pub span-row : {m : ℕ} {p : Span} → Marked b i r m → T (among rowMarks m) → Spanned b i r m p → Row b i r (p .stride) (p .from) (p .count)
+  pub span-row : {m : ℕ} {p : Span} → Marked b i r m → T (among rowMarks m) → Spanned b i r m p → Elements b i r (p .stride) (p .from) (p .count)
   span-row g t s = record { few = s .few; low = s .low; near = s .near; each = λ j h. (span-lies g t (s .is) j h, span-stands g t (s .is) j h) }
 
 -- there is u exactly where the test says so
@@ -161,6 +161,6 @@ same-replicate a (t ∷ ts) zero e = absurd (omega arith)
 same-replicate a (t ∷ ts) (suc n) e = ap (both (same t a)) (same-replicate a ts n (omega arith))
 
 -- the row of none is unit
-pub row-unit : {b i : List ℕ} {r s k n : ℕ} → Row b i r s k n → (t : Ty) → n ≡ 0 → same t one ≡ same t (rowType (typesAt b i r s k n))
+pub row-unit : {b i : List ℕ} {r s k n : ℕ} → Elements b i r s k n → (t : Ty) → n ≡ 0 → same t one ≡ same t (rowType (typesAt b i r s k n))
 unfolding typesAt group
 row-unit w t e = rw (e, row-none one product)

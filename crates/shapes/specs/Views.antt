@@ -35,5 +35,5 @@ abbrev pub sideIs : ℕ → ℕ → Ty → Option Ty
 sideIs m k t = sideOf (sortOf m) (pick (eqb k 0) onLeft onRight) t
 
 -- a list's bound
-abbrev pub Bound : ℕ → Type 0
-Bound n = T (powerIn 2 256 n)
+abbrev pub ListBound : ℕ → Type 0
+ListBound n = T (powerIn 2 256 n)

@@ -36,14 +36,14 @@ module _ (b i : List ℕ) (r : ℕ) where
   wordsAt k n = group 2 true (λ j t. both (same (typeIs (exprOf b i (field b i r (j + 1)))) (wordType (field b i r j))) t) k n
 
   -- they name expressions
-  pub record Row (s k n : ℕ) : Type 0 where
+  pub record Elements (s k n : ℕ) : Type 0 where
     pub few : n ≤ 256
     pub low : k ≤ 4
     pub near : s ≤ 2
     pub each : (j : ℕ) → j < n → Lies b i r (k + s * j) × Stands b i (field b i r (k + s * j)) EXPRESSION
 
 -- an expression's record, whose mark is m and whose declared type is record t
-pub record Typed (b i : List ℕ) (r m t : ℕ) : Type 0 where
+pub record Declares (b i : List ℕ) (r m t : ℕ) : Type 0 where
   pub marked : Marked b i r m
   pub is : t ≡ field b i r 0
 

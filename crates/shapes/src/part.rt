@@ -10,7 +10,7 @@ ghost use Rattle.book.specs.Stands.{Stands};
 ghost use Rattle.book.specs.Tree.{typeOf, exprOf};
 ghost use Rattle.laws.specs.Table.{among};
 ghost use Rattle.shapes.specs.Shapes.{typeIs, placeOf, arrayType, listType, wordType, blockType, halvedOf, elementOf, hasPlaces};
-ghost use Rattle.shapes.specs.Views.{NONE, Gives, sortOf, isSort, sideIs, Bound};
+ghost use Rattle.shapes.specs.Views.{NONE, Gives, sortOf, isSort, sideIs, ListBound};
 use array::split;
 use book::format::TP;
 use book::format::TS;
@@ -151,7 +151,7 @@ pub fn is_block(book: &[u8], index: &[u16], t: u16, n: u32, element: u16) -> boo
 
 // Whether a type is the lists of a bound, of a type.
 pub fn is_list(book: &[u8], index: &[u16], t: u16, bound: u32, element: u16) -> bool
-    requires { ⌜ Stands (now book) (now index) t TYPE ⌝ ∗ ⌜ Stands (now book) (now index) element TYPE ⌝ ∗ ⌜ Bound bound ⌝ }
+    requires { ⌜ Stands (now book) (now index) t TYPE ⌝ ∗ ⌜ Stands (now book) (now index) element TYPE ⌝ ∗ ⌜ ListBound bound ⌝ }
     ensures { λ r. ⌜ r ≡ same (typeOf (now (book .entry)) (now (index .entry)) t) (listType (typeOf (now (book .entry)) (now (index .entry)) element) bound) ⌝ }
 {
     let mut at = t;
@@ -171,7 +171,7 @@ pub fn is_list(book: &[u8], index: &[u16], t: u16, bound: u32, element: u16) -> 
 
 // What a type is the lists of a bound of, if it is that at all: its last block has one element.
 pub fn element_of(book: &[u8], index: &[u16], t: u16, bound: u32) -> u16
-    requires { ⌜ Stands (now book) (now index) t TYPE ⌝ ∗ ⌜ Bound bound ⌝ }
+    requires { ⌜ Stands (now book) (now index) t TYPE ⌝ ∗ ⌜ ListBound bound ⌝ }
     ensures { λ s. ⌜ Gives (now (book .entry)) (now (index .entry)) (elementOf (topOf bound) (typeOf (now (book .entry)) (now (index .entry)) t)) s ⌝ }
 {
     let mut at = t;

@@ -11,7 +11,7 @@ ghost use Rattle.book.specs.Stands.{Stands};
 ghost use Rattle.book.specs.Tree.{typeOf, exprOf, declaredOf};
 ghost use Rattle.parts.specs.Parts.{Marked};
 ghost use Rattle.shapes.specs.Shapes.{typeIs, rowType, wordType, allAre, sameAll, whole};
-ghost use Rattle.shapes.specs.Wholes.{Row, Typed, Folding, typesAt, takesAt, wordsAt, valueAgrees, resultType, accumulates};
+ghost use Rattle.shapes.specs.Wholes.{Elements, Declares, Folding, typesAt, takesAt, wordsAt, valueAgrees, resultType, accumulates};
 use crate::part::NONE;
 use crate::part::element_of;
 use crate::part::has_places;
@@ -67,7 +67,7 @@ fn part_type(book: &[u8], index: &[u16], r: u16, j: usize) -> u16
 
 // Whether a type is the row of the parts' types.
 pub fn is_row(book: &[u8], index: &[u16], t: u16, r: u16, span: Span) -> bool
-    requires { ⌜ Stands (now book) (now index) t TYPE ⌝ ∗ ⌜ Row (now book) (now index) r (span .stride) (span .from) (span .count) ⌝ }
+    requires { ⌜ Stands (now book) (now index) t TYPE ⌝ ∗ ⌜ Elements (now book) (now index) r (span .stride) (span .from) (span .count) ⌝ }
     ensures { λ a. ⌜ a ≡ same (typeOf (now (book .entry)) (now (index .entry)) t) (rowType (typesAt (now (book .entry)) (now (index .entry)) r (span .stride) (span .from) (span .count))) ⌝ }
 {
     let n = span.count;
@@ -87,7 +87,7 @@ pub fn is_row(book: &[u8], index: &[u16], t: u16, r: u16, span: Span) -> bool
 
 // Whether the parts all have a type.
 fn are_all(book: &[u8], index: &[u16], t: u16, r: u16, span: Span) -> bool
-    requires { ⌜ Stands (now book) (now index) t TYPE ⌝ ∗ ⌜ Row (now book) (now index) r (span .stride) (span .from) (span .count) ⌝ }
+    requires { ⌜ Stands (now book) (now index) t TYPE ⌝ ∗ ⌜ Elements (now book) (now index) r (span .stride) (span .from) (span .count) ⌝ }
     ensures { λ a. ⌜ a ≡ allAre (typeOf (now (book .entry)) (now (index .entry)) t) (typesAt (now (book .entry)) (now (index .entry)) r (span .stride) (span .from) (span .count)) ⌝ }
 {
     let n = span.count;
@@ -103,7 +103,7 @@ fn are_all(book: &[u8], index: &[u16], t: u16, r: u16, span: Span) -> bool
 
 // A constant: its value's declared type.
 fn constant(book: &[u8], index: &[u16], r: u16, t: u16) -> bool
-    requires { ⌜ Typed (now book) (now index) r EC t ⌝ }
+    requires { ⌜ Declares (now book) (now index) r EC t ⌝ }
     ensures { λ a. ⌜ a ≡ whole (exprOf (now (book .entry)) (now (index .entry)) r) ⌝ }
 {
     value_type(book, index, r, 1) == t
@@ -111,7 +111,7 @@ fn constant(book: &[u8], index: &[u16], r: u16, t: u16) -> bool
 
 // A tuple: the row of its parts.
 fn tuple(book: &[u8], index: &[u16], r: u16, t: u16) -> bool
-    requires { ⌜ Typed (now book) (now index) r ET t ⌝ }
+    requires { ⌜ Declares (now book) (now index) r ET t ⌝ }
     ensures { λ a. ⌜ a ≡ whole (exprOf (now (book .entry)) (now (index .entry)) r) ⌝ }
 {
     is_row(book, index, t, r, span_of(book, index, r, ET))
@@ -119,7 +119,7 @@ fn tuple(book: &[u8], index: &[u16], r: u16, t: u16) -> bool
 
 // A list: of what its last block says, which its elements all are.
 fn list(book: &[u8], index: &[u16], r: u16, t: u16) -> bool
-    requires { ⌜ Typed (now book) (now index) r EL t ⌝ }
+    requires { ⌜ Declares (now book) (now index) r EL t ⌝ }
     ensures { λ a. ⌜ a ≡ whole (exprOf (now (book .entry)) (now (index .entry)) r) ⌝ }
 {
     let span = span_of(book, index, r, EL);
@@ -136,7 +136,7 @@ fn list(book: &[u8], index: &[u16], r: u16, t: u16) -> bool
 
 // Left or right of a part: the side k of the declared type is the part's.
 fn injection(book: &[u8], index: &[u16], r: u16, t: u16, k: usize) -> bool
-    requires { ⌜ Typed (now book) (now index) r (E0 + k) t ⌝ ∗ ⌜ k < 2 ⌝ }
+    requires { ⌜ Declares (now book) (now index) r (E0 + k) t ⌝ ∗ ⌜ k < 2 ⌝ }
     ensures { λ a. ⌜ a ≡ whole (exprOf (now (book .entry)) (now (index .entry)) r) ⌝ }
 {
     side(book, index, TS, t, k) == part_type(book, index, r, 1)
@@ -144,7 +144,7 @@ fn injection(book: &[u8], index: &[u16], r: u16, t: u16, k: usize) -> bool
 
 // A variant: the declared type has all the places, and that of the index is the payload's row.
 fn variant(book: &[u8], index: &[u16], r: u16, t: u16) -> bool
-    requires { ⌜ Typed (now book) (now index) r EN t ⌝ }
+    requires { ⌜ Declares (now book) (now index) r EN t ⌝ }
     ensures { λ a. ⌜ a ≡ whole (exprOf (now (book .entry)) (now (index .entry)) r) ⌝ }
 {
     let span = span_of(book, index, r, EN);
@@ -161,7 +161,7 @@ fn variant(book: &[u8], index: &[u16], r: u16, t: u16) -> bool
 
 // A block: its end's type, or unit where there is none.
 fn block(book: &[u8], index: &[u16], r: u16, t: u16) -> bool
-    requires { ⌜ Typed (now book) (now index) r EB t ⌝ }
+    requires { ⌜ Declares (now book) (now index) r EB t ⌝ }
     ensures { λ a. ⌜ a ≡ whole (exprOf (now (book .entry)) (now (index .entry)) r) ⌝ }
 {
     let n = field_at(book, index, r, 1) as usize;
@@ -174,7 +174,7 @@ fn block(book: &[u8], index: &[u16], r: u16, t: u16) -> bool
 
 // A match of two arms: both are of its type.
 fn two_arms(book: &[u8], index: &[u16], r: u16, t: u16) -> bool
-    requires { ⌜ Typed (now book) (now index) r EM t ⌝ }
+    requires { ⌜ Declares (now book) (now index) r EM t ⌝ }
     ensures { λ a. ⌜ a ≡ whole (exprOf (now (book .entry)) (now (index .entry)) r) ⌝ }
 {
     let span = Span {
@@ -187,7 +187,7 @@ fn two_arms(book: &[u8], index: &[u16], r: u16, t: u16) -> bool
 
 // An enum's match: all arms are of its type.
 fn arms(book: &[u8], index: &[u16], r: u16, t: u16) -> bool
-    requires { ⌜ Typed (now book) (now index) r EH t ⌝ }
+    requires { ⌜ Declares (now book) (now index) r EH t ⌝ }
     ensures { λ a. ⌜ a ≡ whole (exprOf (now (book .entry)) (now (index .entry)) r) ⌝ }
 {
     are_all(book, index, t, r, span_of(book, index, r, EH))
@@ -215,7 +215,7 @@ fn is_result(book: &[u8], index: &[u16], t: u16, bits: u32) -> bool
 
 // Whether the parts are all words of so many bits.
 fn are_words(book: &[u8], index: &[u16], r: u16, span: Span, bits: u32) -> bool
-    requires { ⌜ Row (now book) (now index) r (span .stride) (span .from) (span .count) ⌝ ∗ ⌜ T (among powers bits) ⌝ }
+    requires { ⌜ Elements (now book) (now index) r (span .stride) (span .from) (span .count) ⌝ ∗ ⌜ T (among powers bits) ⌝ }
     ensures { λ a. ⌜ a ≡ allAre (wordType bits) (typesAt (now (book .entry)) (now (index .entry)) r (span .stride) (span .from) (span .count)) ⌝ }
 {
     let n = span.count;
@@ -232,7 +232,7 @@ fn are_words(book: &[u8], index: &[u16], r: u16, span: Span, bits: u32) -> bool
 
 // A jet: as many arguments as it takes, which share its input's bits, and its output.
 fn jet(book: &[u8], index: &[u16], r: u16, t: u16) -> bool
-    requires { ⌜ Typed (now book) (now index) r CJ t ⌝ }
+    requires { ⌜ Declares (now book) (now index) r CJ t ⌝ }
     ensures { λ a. ⌜ a ≡ whole (exprOf (now (book .entry)) (now (index .entry)) r) ⌝ }
 {
     let span = span_of(book, index, r, CJ);
@@ -249,7 +249,7 @@ fn jet(book: &[u8], index: &[u16], r: u16, t: u16) -> bool
 
 // An unwrapped part: the side k of its type is the declared one.
 fn unwrap(book: &[u8], index: &[u16], r: u16, t: u16, k: usize) -> bool
-    requires { ⌜ Typed (now book) (now index) r (CL + k) t ⌝ ∗ ⌜ k < 2 ⌝ }
+    requires { ⌜ Declares (now book) (now index) r (CL + k) t ⌝ ∗ ⌜ k < 2 ⌝ }
     ensures { λ a. ⌜ a ≡ whole (exprOf (now (book .entry)) (now (index .entry)) r) ⌝ }
 {
     let part = part_type(book, index, r, 2);
@@ -258,7 +258,7 @@ fn unwrap(book: &[u8], index: &[u16], r: u16, t: u16, k: usize) -> bool
 
 // Debug: its part's type.
 fn debug(book: &[u8], index: &[u16], r: u16, t: u16) -> bool
-    requires { ⌜ Typed (now book) (now index) r CD t ⌝ }
+    requires { ⌜ Declares (now book) (now index) r CD t ⌝ }
     ensures { λ a. ⌜ a ≡ whole (exprOf (now (book .entry)) (now (index .entry)) r) ⌝ }
 {
     part_type(book, index, r, 2) == t
@@ -266,7 +266,7 @@ fn debug(book: &[u8], index: &[u16], r: u16, t: u16) -> bool
 
 // Assert: from a bit to unit.
 fn assert(book: &[u8], index: &[u16], r: u16, t: u16) -> bool
-    requires { ⌜ Typed (now book) (now index) r CA t ⌝ }
+    requires { ⌜ Declares (now book) (now index) r CA t ⌝ }
     ensures { λ a. ⌜ a ≡ whole (exprOf (now (book .entry)) (now (index .entry)) r) ⌝ }
 {
     let part = part_type(book, index, r, 2);
@@ -278,7 +278,7 @@ fn assert(book: &[u8], index: &[u16], r: u16, t: u16) -> bool
 
 // IsNone: from a sum to a bit.
 fn is_none(book: &[u8], index: &[u16], r: u16, t: u16) -> bool
-    requires { ⌜ Typed (now book) (now index) r CN t ⌝ }
+    requires { ⌜ Declares (now book) (now index) r CN t ⌝ }
     ensures { λ a. ⌜ a ≡ whole (exprOf (now (book .entry)) (now (index .entry)) r) ⌝ }
 {
     let part = part_type(book, index, r, 1);
@@ -290,7 +290,7 @@ fn is_none(book: &[u8], index: &[u16], r: u16, t: u16) -> bool
 
 // A cast: its part's type.
 fn cast(book: &[u8], index: &[u16], r: u16, t: u16) -> bool
-    requires { ⌜ Typed (now book) (now index) r CK t ⌝ }
+    requires { ⌜ Declares (now book) (now index) r CK t ⌝ }
     ensures { λ a. ⌜ a ≡ whole (exprOf (now (book .entry)) (now (index .entry)) r) ⌝ }
 {
     part_type(book, index, r, 1) == t
@@ -298,7 +298,7 @@ fn cast(book: &[u8], index: &[u16], r: u16, t: u16) -> bool
 
 // Whether the arguments of a call are what its function takes, of as many parameters.
 fn are_taken(book: &[u8], index: &[u16], r: u16, f: u16, n: usize) -> bool
-    requires { ⌜ Row (now book) (now index) r 1 3 n ⌝ ∗ ⌜ Stands (now book) (now index) f FUNCTION ⌝ ∗ ⌜ n ≡ field (now book) (now index) f 1 ⌝ }
+    requires { ⌜ Elements (now book) (now index) r 1 3 n ⌝ ∗ ⌜ Stands (now book) (now index) f FUNCTION ⌝ ∗ ⌜ n ≡ field (now book) (now index) f 1 ⌝ }
     ensures { λ a. ⌜ a ≡ sameAll (typesAt (now (book .entry)) (now (index .entry)) r 1 3 n) (takesAt (now (book .entry)) (now (index .entry)) f 2 n) ⌝ }
 {
     let mut k: usize = 0;
@@ -313,7 +313,7 @@ fn are_taken(book: &[u8], index: &[u16], r: u16, f: u16, n: usize) -> bool
 
 // A call: as many arguments as parameters, of their types, and what the function gives.
 fn call(book: &[u8], index: &[u16], r: u16, t: u16) -> bool
-    requires { ⌜ Typed (now book) (now index) r CF t ⌝ }
+    requires { ⌜ Declares (now book) (now index) r CF t ⌝ }
     ensures { λ a. ⌜ a ≡ whole (exprOf (now (book .entry)) (now (index .entry)) r) ⌝ }
 {
     let f = field_at(book, index, r, 1);
@@ -344,7 +344,7 @@ fn is_accumulator(book: &[u8], index: &[u16], r: u16, f: u16, t: u16) -> bool
 
 // A list fold.
 fn list_fold(book: &[u8], index: &[u16], r: u16, t: u16) -> bool
-    requires { ⌜ Typed (now book) (now index) r CQ t ⌝ }
+    requires { ⌜ Declares (now book) (now index) r CQ t ⌝ }
     ensures { λ a. ⌜ a ≡ whole (exprOf (now (book .entry)) (now (index .entry)) r) ⌝ }
 {
     let f = field_at(book, index, r, 1);
@@ -361,7 +361,7 @@ fn list_fold(book: &[u8], index: &[u16], r: u16, t: u16) -> bool
 
 // An array fold.
 fn array_fold(book: &[u8], index: &[u16], r: u16, t: u16) -> bool
-    requires { ⌜ Typed (now book) (now index) r CY t ⌝ }
+    requires { ⌜ Declares (now book) (now index) r CY t ⌝ }
     ensures { λ a. ⌜ a ≡ whole (exprOf (now (book .entry)) (now (index .entry)) r) ⌝ }
 {
     let f = field_at(book, index, r, 1);
@@ -378,7 +378,7 @@ fn array_fold(book: &[u8], index: &[u16], r: u16, t: u16) -> bool
 
 // A loop, whose function takes three: the counter, the accumulator and the context, and what it gives.
 fn for_while(book: &[u8], index: &[u16], r: u16, t: u16) -> bool
-    requires { ⌜ Typed (now book) (now index) r CW t ⌝ }
+    requires { ⌜ Declares (now book) (now index) r CW t ⌝ }
     ensures { λ a. ⌜ a ≡ whole (exprOf (now (book .entry)) (now (index .entry)) r) ⌝ }
 {
     let f = field_at(book, index, r, 1);
@@ -423,7 +423,7 @@ fn are_hashed(book: &[u8], index: &[u16], r: u16, n: usize) -> bool
 
 // A hash: words of their widths, to a word of 256 bits.
 fn hash(book: &[u8], index: &[u16], r: u16, t: u16) -> bool
-    requires { ⌜ Typed (now book) (now index) r CH t ⌝ }
+    requires { ⌜ Declares (now book) (now index) r CH t ⌝ }
     ensures { λ a. ⌜ a ≡ whole (exprOf (now (book .entry)) (now (index .entry)) r) ⌝ }
 {
     let n = field_at(book, index, r, 2) as usize;
@@ -435,7 +435,7 @@ fn hash(book: &[u8], index: &[u16], r: u16, t: u16) -> bool
 
 // A call, by its mark.
 fn call_agrees(book: &[u8], index: &[u16], r: u16, m: u8, t: u16) -> bool
-    requires { ⌜ Typed (now book) (now index) r m t ⌝ ∗ ⌜ CJ ≤ m ⌝ }
+    requires { ⌜ Declares (now book) (now index) r m t ⌝ ∗ ⌜ CJ ≤ m ⌝ }
     ensures { λ a. ⌜ a ≡ whole (exprOf (now (book .entry)) (now (index .entry)) r) ⌝ }
 {
     match m {

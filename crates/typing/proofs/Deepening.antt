@@ -23,7 +23,7 @@ use Rattle.book.proofs.Standing.{stands-mark, stands-tree, each-stands, each-be
 use Rattle.shapes.specs.Shapes.{typeIs}
 use Rattle.binders.specs.Binders.{fits, names, twice, Binding}
 use Rattle.typing.specs.Check.{andThen, hold, binds, known, check, checks, words, arms, statements, checkFun}
-use Rattle.typing.specs.Typed.{Binds, Typed, AllTyped, WordsTyped, ArmsTyped, RunTyped, FunTyped}
+use Rattle.typing.specs.Typed.{Bindable, Typed, AllTyped, WordsTyped, ArmsTyped, RunTyped, FunTyped}
 use Rattle.typing.specs.declared.cycle.Checked.{Checked}
 use Rattle.typing.specs.declared.cycle.Checked.the-variants.{Passed, Refused}
 use Rattle.typing.proofs.Earlier.{Before, each-before, in-head, in-group}
@@ -53,7 +53,7 @@ not-true true e = sym e
 not-true false e = refl
 
 -- a binding that passes may be made
-passed-binds : (r : ℕ) (p : Pat) (t : Ty) → binds r p t ≡ Passed → Binds p t
+passed-binds : (r : ℕ) (p : Pat) (t : Ty) → binds r p t ≡ Passed → Bindable p t
 unfolding binds
 passed-binds r p t e =
     let h = passed-then _ r (passed-holds (fits p t) _ r) e in

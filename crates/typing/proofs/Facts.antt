@@ -20,7 +20,7 @@ use Rattle.parts.specs.declared.view.Span.{Span}
 use Rattle.parts.proofs.Spans.{span-field, stmt-field, does-mark}
 use Rattle.binders.specs.Binders.{Binding}
 use Rattle.typing.specs.Check.{andThen, check}
-use Rattle.typing.specs.Cycle.{Arm, Arms, checksAt}
+use Rattle.typing.specs.Cycle.{ArmAt, ArmsAt, checksAt}
 use Rattle.typing.specs.declared.cycle.Checked.the-variants.{Passed}
 use Rattle.typing.proofs.Depths.{field-shallower, kind-shallower}
 
@@ -132,7 +132,7 @@ module _ {b i : List ℕ} {s : ℕ} (k : Stands b i s STATEMENT) where
     value-part e = head-part k SA is 1 EXPRESSION tt tt e
 
 -- an arm, and what it names
-arm-of : {b i : List ℕ} {r j : ℕ} → Stands b i r EXPRESSION → Field b i r j PATTERN → Field b i r (j + 1) EXPRESSION → Arm b i r j
+arm-of : {b i : List ℕ} {r j : ℕ} → Stands b i r EXPRESSION → Field b i r j PATTERN → Field b i r (j + 1) EXPRESSION → ArmAt b i r j
 arm-of s p e = record {
   lies = field-in s p;
   then-lies = field-in s e;
@@ -144,12 +144,12 @@ arm-of s p e = record {
 
 -- a match of two arms
 module _ {b i : List ℕ} {r : ℕ} (g : Marked b i r EM) where
-  two-at : (k : ℕ) → k < 2 → Arm b i r (2 + 2 * k)
+  two-at : (k : ℕ) → k < 2 → ArmAt b i r (2 + 2 * k)
   two-at zero h = arm-of (g .stands) (head-role (g .stands) EM (g .is) 2 PATTERN tt) (head-role (g .stands) EM (g .is) 3 EXPRESSION tt)
   two-at (suc zero) h = arm-of (g .stands) (head-role (g .stands) EM (g .is) 4 PATTERN tt) (head-role (g .stands) EM (g .is) 5 EXPRESSION tt)
   two-at (suc (suc k)) h = absurd (omega arith)
 
-  pub two-arms : Arms b i r 2 2
+  pub two-arms : ArmsAt b i r 2 2
   two-arms = let p = head-part (g .stands) EM (g .is) 1 EXPRESSION tt tt refl in record {
     some = omega arith;
     few = omega arith;
@@ -166,7 +166,7 @@ module _ {b i : List ℕ} {r : ℕ} (g : Marked b i r EH) where
   pub arms-count : Lies b i r 2
   arms-count = head-lies (g .stands) EH (g .is) 2 tt
 
-  pub enum-arms : (n : ℕ) → n ≡ field b i r 2 → Arms b i r 3 n
+  pub enum-arms : (n : ℕ) → n ≡ field b i r 2 → ArmsAt b i r 3 n
   unfolding inRange within
   enum-arms n z =
       let p = head-part (g .stands) EH (g .is) 1 EXPRESSION tt tt refl in

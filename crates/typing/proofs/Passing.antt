@@ -12,7 +12,7 @@ use Rattle.book.specs.Tree.{Pat, Expr, constant, witness, variable, tuple, list
 use Rattle.shapes.specs.Shapes.{typeIs}
 use Rattle.binders.specs.Binders.{Binding, scopeIn}
 use Rattle.typing.specs.Check.{andThen, hold, binds, known, armCount, check, checks, words, arms, statements, checkFun}
-use Rattle.typing.specs.Typed.{Binds, Typed, AllTyped, WordsTyped, ArmsTyped, RunTyped, FunTyped}
+use Rattle.typing.specs.Typed.{Bindable, Typed, AllTyped, WordsTyped, ArmsTyped, RunTyped, FunTyped}
 use Rattle.typing.specs.declared.cycle.Checked.{Checked}
 use Rattle.typing.specs.declared.cycle.Checked.the-variants.{Passed}
 
@@ -25,7 +25,7 @@ pub holds-pass : {t : Bool} (f : Fault) (r : ℕ) → t ≡ true → hold t f r 
 holds-pass f r e = rw e
 
 -- a pattern that may be bound
-binds-pass : (r : ℕ) {p : Pat} {t : Ty} → Binds p t → binds r p t ≡ Passed
+binds-pass : (r : ℕ) {p : Pat} {t : Ty} → Bindable p t → binds r p t ≡ Passed
 unfolding binds
 binds-pass r h = both-pass (holds-pass _ r (h .fit)) (holds-pass _ r (ap not (h .once)))
 

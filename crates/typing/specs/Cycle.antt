@@ -115,7 +115,7 @@ pub record Stated (b i : List ℕ) (s n base : ℕ) (bs : List ℕ) (c : Checked
   pub newer : c ≡ Passed → Holds b i bs′ (liveAfter b i s n) base (enteredOf b i s (scopeOf b i bs n base))
 
 -- the arm whose pattern is field j: a pattern and an expression, both of lesser depth
-pub record Arm (b i : List ℕ) (r j : ℕ) : Type 0 where
+pub record ArmAt (b i : List ℕ) (r j : ℕ) : Type 0 where
   pub lies : Lies b i r j
   pub then-lies : Lies b i r (j + 1)
   pub pattern : Stands b i (field b i r j) PATTERN
@@ -124,7 +124,7 @@ pub record Arm (b i : List ℕ) (r j : ℕ) : Type 0 where
   pub shallower : depth b i (field b i r (j + 1)) < depth b i r
 
 -- a match's scrutinee, and its n arms from field `from` on
-pub record Arms (b i : List ℕ) (r from n : ℕ) : Type 0 where
+pub record ArmsAt (b i : List ℕ) (r from n : ℕ) : Type 0 where
   pub some : 1 ≤ n
   pub few : n ≤ 256
   pub low : from ≤ 3
@@ -132,7 +132,7 @@ pub record Arms (b i : List ℕ) (r from n : ℕ) : Type 0 where
   pub scrutinee : Stands b i (field b i r 1) EXPRESSION
   pub below : field b i r 1 < r
   pub shallower : depth b i (field b i r 1) < depth b i r
-  pub each : (k : ℕ) → k < n → Arm b i r (from + 2 * k)
+  pub each : (k : ℕ) → k < n → ArmAt b i r (from + 2 * k)
 
 -- a type with a place for each of n variants
 pub record Places (b i : List ℕ) (t n : ℕ) : Type 0 where

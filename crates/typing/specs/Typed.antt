@@ -18,7 +18,7 @@ use Rattle.binders.specs.Binders.{fits, names, paramNames, twice, Binding, bind
 use Rattle.typing.specs.Check.{variantType, armCount}
 
 -- document 01, Refusals 13 and 14: a pattern may be bound to a type: it fits, and has no name twice
-pub record Binds (p : Pat) (t : Ty) : Type 0 where
+pub record Bindable (p : Pat) (t : Ty) : Type 0 where
   pub fit : fits p t ≡ true
   pub once : twice (names p) ≡ false
 
@@ -36,8 +36,8 @@ unfoldable mutual
   Typed sc (block r t ss) = (RunTyped sc ss) × (whole (block r t ss) ≡ true)
   Typed sc (match r t e p l q g) =
       (hasPlaces 2 (typeIs e) ≡ true)
-      × (Binds p (variantType 2 0 (typeIs e))) × (Typed (binding p (variantType 2 0 (typeIs e)) ∷ sc) l)
-      × (Binds q (variantType 2 1 (typeIs e))) × (Typed (binding q (variantType 2 1 (typeIs e)) ∷ sc) g)
+      × (Bindable p (variantType 2 0 (typeIs e))) × (Typed (binding p (variantType 2 0 (typeIs e)) ∷ sc) l)
+      × (Bindable q (variantType 2 1 (typeIs e))) × (Typed (binding q (variantType 2 1 (typeIs e)) ∷ sc) g)
       × (Typed sc e) × (whole (match r t e p l q g) ≡ true)
   Typed sc (matchEnum r t e cs) = (hasPlaces (armCount cs) (typeIs e) ≡ true) × (ArmsTyped (armCount cs) zero (typeIs e) sc cs) × (Typed sc e) × (whole (matchEnum r t e cs) ≡ true)
   Typed sc (jet r t s j es) = (AllTyped sc es) × (whole (jet r t s j es) ≡ true)
@@ -66,11 +66,11 @@ unfoldable mutual
   -- the arms from k of n on, of a match on the type t
   pub ArmsTyped : ℕ → ℕ → Ty → List Binding → Arms → Type 0
   ArmsTyped n k t sc noArms = Unit {0}
-  ArmsTyped n k t sc (moreArms p e cs) = (Binds p (variantType n k t)) × (Typed (binding p (variantType n k t) ∷ sc) e) × (ArmsTyped n (suc k) t sc cs)
+  ArmsTyped n k t sc (moreArms p e cs) = (Bindable p (variantType n k t)) × (Typed (binding p (variantType n k t) ∷ sc) e) × (ArmsTyped n (suc k) t sc cs)
 
   -- a block's statements and its end
   pub RunTyped : List Binding → Stmts → Type 0
-  RunTyped sc (assign s p e rest) = (Typed sc e) × (Binds p (typeIs e)) × (RunTyped (binding p (typeIs e) ∷ sc) rest)
+  RunTyped sc (assign s p e rest) = (Typed sc e) × (Bindable p (typeIs e)) × (RunTyped (binding p (typeIs e) ∷ sc) rest)
   RunTyped sc (does s e rest) = (Typed sc e) × (typeIs e ≡ one) × (RunTyped sc rest)
   RunTyped sc (end e) = Typed sc e
   RunTyped sc noEnd = Unit {0}

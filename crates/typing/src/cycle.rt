@@ -9,7 +9,7 @@ ghost use Rattle.book.specs.Tree.{typeOf, patternOf, exprOf, funOf};
 ghost use Rattle.parts.specs.Parts.{Marked};
 ghost use Rattle.binders.specs.Memos.{Live, scopeOf};
 ghost use Rattle.typing.specs.Check.{agree, binds, check, checkFun};
-ghost use Rattle.typing.specs.Cycle.{Rows, Scoped, Enough, Stays, Bound, Stated, Arm, Arms, Places, partsOf, rowOf, matchOf, armsFrom, armOf, statementOf, blockOf, liveAfter};
+ghost use Rattle.typing.specs.Cycle.{Rows, Scoped, Enough, Stays, Bound, Stated, ArmAt, ArmsAt, Places, partsOf, rowOf, matchOf, armsFrom, armOf, statementOf, blockOf, liveAfter};
 use binders::fits;
 use binders::params_repeat;
 use binders::type_for;
@@ -258,7 +258,7 @@ fn matching(
     live: usize,
     base: u16,
 ) -> Checked
-    requires { ⌜ Arms (now book) (now index) r from n ⌝ ∗ ⌜ Scoped (now book) (now index) (now doubled) (now memo) (now missing) (now bindings) live base ⌝ ∗ ⌜ Enough (now book) (now index) r live ⌝ }
+    requires { ⌜ ArmsAt (now book) (now index) r from n ⌝ ∗ ⌜ Scoped (now book) (now index) (now doubled) (now memo) (now missing) (now bindings) live base ⌝ ∗ ⌜ Enough (now book) (now index) r live ⌝ }
     ensures { λ c. ⌜ Stays (now (book .entry)) (now (index .entry)) (matchOf (now (book .entry)) (now (index .entry)) r from n (scopeOf (now (book .entry)) (now (index .entry)) (now (bindings .entry)) live base)) live (now (bindings .entry)) c (now (memo .exit)) (now (missing .exit)) (now (bindings .exit)) ⌝ }
 {
     let e = field_at(book, index, r, 1);
@@ -300,7 +300,7 @@ fn arms(
     live: usize,
     base: u16,
 ) -> Checked
-    requires { ⌜ Arms (now book) (now index) r from n ⌝ ∗ ⌜ Places (now book) (now index) t n ⌝ ∗ ⌜ Scoped (now book) (now index) (now doubled) (now memo) (now missing) (now bindings) live base ⌝ ∗ ⌜ Enough (now book) (now index) r live ⌝ }
+    requires { ⌜ ArmsAt (now book) (now index) r from n ⌝ ∗ ⌜ Places (now book) (now index) t n ⌝ ∗ ⌜ Scoped (now book) (now index) (now doubled) (now memo) (now missing) (now bindings) live base ⌝ ∗ ⌜ Enough (now book) (now index) r live ⌝ }
     ensures { λ c. ⌜ Stays (now (book .entry)) (now (index .entry)) (armsFrom (now (book .entry)) (now (index .entry)) r from n (typeOf (now (book .entry)) (now (index .entry)) t) (scopeOf (now (book .entry)) (now (index .entry)) (now (bindings .entry)) live base) 0 n) live (now (bindings .entry)) c (now (memo .exit)) (now (missing .exit)) (now (bindings .exit)) ⌝ }
 {
     let mut k: usize = 0;
@@ -343,7 +343,7 @@ fn arm(
     live: usize,
     base: u16,
 ) -> Checked
-    requires { ⌜ Arm (now book) (now index) r j ⌝ ∗ ⌜ Stands (now book) (now index) s TYPE ⌝ ∗ ⌜ Scoped (now book) (now index) (now doubled) (now memo) (now missing) (now bindings) live base ⌝ ∗ ⌜ Enough (now book) (now index) r live ⌝ }
+    requires { ⌜ ArmAt (now book) (now index) r j ⌝ ∗ ⌜ Stands (now book) (now index) s TYPE ⌝ ∗ ⌜ Scoped (now book) (now index) (now doubled) (now memo) (now missing) (now bindings) live base ⌝ ∗ ⌜ Enough (now book) (now index) r live ⌝ }
     ensures { λ c. ⌜ Stays (now (book .entry)) (now (index .entry)) (armOf (now (book .entry)) (now (index .entry)) r j (typeOf (now (book .entry)) (now (index .entry)) s) (scopeOf (now (book .entry)) (now (index .entry)) (now (bindings .entry)) live base)) live (now (bindings .entry)) c (now (memo .exit)) (now (missing .exit)) (now (bindings .exit)) ⌝ }
 {
     let p = field_at(book, index, r, j);
