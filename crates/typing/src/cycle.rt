@@ -1,4 +1,6 @@
-// The judgement of expressions: parts in lowering order before the whole.
+// The judgement of expressions: parts in lowering order before the whole. All are lent four rows: `doubled` says which patterns have a
+// name twice, `memo` which patterns are known to fit which types, `vain` serves a name's search, and `scope` has the live bindings, a
+// pattern and a type each, behind the scope's base: a function, or none.
 ghost use mathlib.Core.Path.{_≡_};
 ghost use Prim.Native.Nat.{_<_};
 ghost use lib.ListN.{length};
@@ -56,16 +58,16 @@ fn variable(
     book: &[u8],
     index: &[u16],
     r: u16,
-    missing: &mut [u8],
-    bindings: &[u16],
+    vain: &mut [u8],
+    scope: &[u16],
     live: usize,
     base: u16,
 ) -> Checked
-    requires { ⌜ Marked (now book) (now index) r EV ⌝ ∗ ⌜ Live (now book) (now index) (now bindings) live base ⌝ ∗ ⌜ length (now missing) ≡ 4096 ⌝ }
-    ensures { λ c. ⌜ (c ≡ check (exprOf (now (book .entry)) (now (index .entry)) r) (scopeOf (now (book .entry)) (now (index .entry)) (now (bindings .entry)) live base)) × (length (now (missing .exit)) ≡ 4096) ⌝ }
+    requires { ⌜ Marked (now book) (now index) r EV ⌝ ∗ ⌜ Live (now book) (now index) (now scope) live base ⌝ ∗ ⌜ length (now vain) ≡ 4096 ⌝ }
+    ensures { λ c. ⌜ (c ≡ check (exprOf (now (book .entry)) (now (index .entry)) r) (scopeOf (now (book .entry)) (now (index .entry)) (now (scope .entry)) live base)) × (length (now (vain .exit)) ≡ 4096) ⌝ }
 {
     let name = field_at(book, index, r, 1);
-    let found = type_for(book, index, bindings, live, base, name, missing);
+    let found = type_for(book, index, scope, live, base, name, vain);
     if found == NONE {
         return Checked::Refused(Refusal {
             fault: Fault::Undefined,
@@ -84,13 +86,13 @@ fn bind(
     t: u16,
     doubled: &[u8],
     memo: &mut [u32],
-    missing: &mut [u8],
-    bindings: &mut [u16],
+    vain: &mut [u8],
+    scope: &mut [u16],
     live: usize,
     base: u16,
 ) -> Checked
-    requires { ⌜ Stands (now book) (now index) p PATTERN ⌝ ∗ ⌜ Stands (now book) (now index) t TYPE ⌝ ∗ ⌜ Scoped (now book) (now index) (now doubled) (now memo) (now missing) (now bindings) live base ⌝ ∗ ⌜ live < 65280 ⌝ }
-    ensures { λ c. ⌜ Bound (now (book .entry)) (now (index .entry)) (binds r (patternOf (now (book .entry)) (now (index .entry)) p) (typeOf (now (book .entry)) (now (index .entry)) t)) p t live base (now (bindings .entry)) c (now (memo .exit)) (now (missing .exit)) (now (bindings .exit)) ⌝ }
+    requires { ⌜ Stands (now book) (now index) p PATTERN ⌝ ∗ ⌜ Stands (now book) (now index) t TYPE ⌝ ∗ ⌜ Scoped (now book) (now index) (now doubled) (now memo) (now vain) (now scope) live base ⌝ ∗ ⌜ live < 65280 ⌝ }
+    ensures { λ c. ⌜ Bound (now (book .entry)) (now (index .entry)) (binds r (patternOf (now (book .entry)) (now (index .entry)) p) (typeOf (now (book .entry)) (now (index .entry)) t)) p t live base (now (scope .entry)) c (now (memo .exit)) (now (vain .exit)) (now (scope .exit)) ⌝ }
 {
     if !fits(book, index, p, t, memo) {
         return Checked::Refused(Refusal {
@@ -104,8 +106,8 @@ fn bind(
             place: r,
         });
     }
-    bindings[2 * live] = p;
-    bindings[2 * live + 1] = t;
+    scope[2 * live] = p;
+    scope[2 * live + 1] = t;
     Checked::Passed
 }
 
@@ -116,30 +118,19 @@ pub fn expression(
     r: u16,
     doubled: &[u8],
     memo: &mut [u32],
-    missing: &mut [u8],
-    bindings: &mut [u16],
+    vain: &mut [u8],
+    scope: &mut [u16],
     live: usize,
     base: u16,
 ) -> Checked
-    requires { ⌜ Stands (now book) (now index) r EXPRESSION ⌝ ∗ ⌜ Scoped (now book) (now index) (now doubled) (now memo) (now missing) (now bindings) live base ⌝ ∗ ⌜ Enough (now book) (now index) r live ⌝ }
-    ensures { λ c. ⌜ Stays (now (book .entry)) (now (index .entry)) (check (exprOf (now (book .entry)) (now (index .entry)) r) (scopeOf (now (book .entry)) (now (index .entry)) (now (bindings .entry)) live base)) live (now (bindings .entry)) c (now (memo .exit)) (now (missing .exit)) (now (bindings .exit)) ⌝ }
+    requires { ⌜ Stands (now book) (now index) r EXPRESSION ⌝ ∗ ⌜ Scoped (now book) (now index) (now doubled) (now memo) (now vain) (now scope) live base ⌝ ∗ ⌜ Enough (now book) (now index) r live ⌝ }
+    ensures { λ c. ⌜ Stays (now (book .entry)) (now (index .entry)) (check (exprOf (now (book .entry)) (now (index .entry)) r) (scopeOf (now (book .entry)) (now (index .entry)) (now (scope .entry)) live base)) live (now (scope .entry)) c (now (memo .exit)) (now (vain .exit)) (now (scope .exit)) ⌝ }
 {
     let m = mark_at(book, index, r);
     if m == EV {
-        return variable(book, index, r, missing, bindings, live, base);
+        return variable(book, index, r, vain, scope, live, base);
     }
-    match parts(
-        book,
-        index,
-        r,
-        m,
-        doubled,
-        memo,
-        missing,
-        bindings,
-        live,
-        base,
-    ) {
+    match parts(book, index, r, m, doubled, memo, vain, scope, live, base) {
         Checked::Passed => agree(agrees(book, index, r, m), r),
         Checked::Refused(w) => Checked::Refused(w),
     }
@@ -153,64 +144,29 @@ fn parts(
     m: u8,
     doubled: &[u8],
     memo: &mut [u32],
-    missing: &mut [u8],
-    bindings: &mut [u16],
+    vain: &mut [u8],
+    scope: &mut [u16],
     live: usize,
     base: u16,
 ) -> Checked
-    requires { ⌜ Marked (now book) (now index) r m ⌝ ∗ ⌜ Scoped (now book) (now index) (now doubled) (now memo) (now missing) (now bindings) live base ⌝ ∗ ⌜ Enough (now book) (now index) r live ⌝ ∗ ⌜ (m ≡ EV → ⊥) ⌝ }
-    ensures { λ c. ⌜ Stays (now (book .entry)) (now (index .entry)) (partsOf (now (book .entry)) (now (index .entry)) r m (scopeOf (now (book .entry)) (now (index .entry)) (now (bindings .entry)) live base)) live (now (bindings .entry)) c (now (memo .exit)) (now (missing .exit)) (now (bindings .exit)) ⌝ }
+    requires { ⌜ Marked (now book) (now index) r m ⌝ ∗ ⌜ Scoped (now book) (now index) (now doubled) (now memo) (now vain) (now scope) live base ⌝ ∗ ⌜ Enough (now book) (now index) r live ⌝ ∗ ⌜ (m ≡ EV → ⊥) ⌝ }
+    ensures { λ c. ⌜ Stays (now (book .entry)) (now (index .entry)) (partsOf (now (book .entry)) (now (index .entry)) r m (scopeOf (now (book .entry)) (now (index .entry)) (now (scope .entry)) live base)) live (now (scope .entry)) c (now (memo .exit)) (now (vain .exit)) (now (scope .exit)) ⌝ }
 {
     if m == EB {
-        return block(book, index, r, doubled, memo, missing, bindings, live, base);
+        return block(book, index, r, doubled, memo, vain, scope, live, base);
     }
     if m == EM {
-        return matching(
-            book,
-            index,
-            r,
-            2,
-            2,
-            doubled,
-            memo,
-            missing,
-            bindings,
-            live,
-            base,
-        );
+        return matching(book, index, r, 2, 2, doubled, memo, vain, scope, live, base);
     }
     if m == EH {
         let n = field_at(book, index, r, 2) as usize;
-        return matching(
-            book,
-            index,
-            r,
-            3,
-            n,
-            doubled,
-            memo,
-            missing,
-            bindings,
-            live,
-            base,
-        );
+        return matching(book, index, r, 3, n, doubled, memo, vain, scope, live, base);
     }
     if m == CK {
         let e = field_at(book, index, r, 1);
-        return expression(book, index, e, doubled, memo, missing, bindings, live, base);
+        return expression(book, index, e, doubled, memo, vain, scope, live, base);
     }
-    row(
-        book,
-        index,
-        r,
-        m,
-        doubled,
-        memo,
-        missing,
-        bindings,
-        live,
-        base,
-    )
+    row(book, index, r, m, doubled, memo, vain, scope, live, base)
 }
 
 // The elements of a record's row.
@@ -221,19 +177,19 @@ fn row(
     m: u8,
     doubled: &[u8],
     memo: &mut [u32],
-    missing: &mut [u8],
-    bindings: &mut [u16],
+    vain: &mut [u8],
+    scope: &mut [u16],
     live: usize,
     base: u16,
 ) -> Checked
-    requires { ⌜ Marked (now book) (now index) r m ⌝ ∗ ⌜ Scoped (now book) (now index) (now doubled) (now memo) (now missing) (now bindings) live base ⌝ ∗ ⌜ Enough (now book) (now index) r live ⌝ }
-    ensures { λ c. ⌜ Stays (now (book .entry)) (now (index .entry)) (rowOf (now (book .entry)) (now (index .entry)) r m (scopeOf (now (book .entry)) (now (index .entry)) (now (bindings .entry)) live base)) live (now (bindings .entry)) c (now (memo .exit)) (now (missing .exit)) (now (bindings .exit)) ⌝ }
+    requires { ⌜ Marked (now book) (now index) r m ⌝ ∗ ⌜ Scoped (now book) (now index) (now doubled) (now memo) (now vain) (now scope) live base ⌝ ∗ ⌜ Enough (now book) (now index) r live ⌝ }
+    ensures { λ c. ⌜ Stays (now (book .entry)) (now (index .entry)) (rowOf (now (book .entry)) (now (index .entry)) r m (scopeOf (now (book .entry)) (now (index .entry)) (now (scope .entry)) live base)) live (now (scope .entry)) c (now (memo .exit)) (now (vain .exit)) (now (scope .exit)) ⌝ }
 {
     let span = span_of(book, index, r, m);
     let mut k: usize = 0;
     while k < span.count {
         let e = field_at(book, index, r, span.from + span.stride * k);
-        match expression(book, index, e, doubled, memo, missing, bindings, live, base) {
+        match expression(book, index, e, doubled, memo, vain, scope, live, base) {
             Checked::Passed => {}
             Checked::Refused(w) => {
                 return Checked::Refused(w);
@@ -253,13 +209,13 @@ fn matching(
     n: usize,
     doubled: &[u8],
     memo: &mut [u32],
-    missing: &mut [u8],
-    bindings: &mut [u16],
+    vain: &mut [u8],
+    scope: &mut [u16],
     live: usize,
     base: u16,
 ) -> Checked
-    requires { ⌜ ArmsAt (now book) (now index) r from n ⌝ ∗ ⌜ Scoped (now book) (now index) (now doubled) (now memo) (now missing) (now bindings) live base ⌝ ∗ ⌜ Enough (now book) (now index) r live ⌝ }
-    ensures { λ c. ⌜ Stays (now (book .entry)) (now (index .entry)) (matchOf (now (book .entry)) (now (index .entry)) r from n (scopeOf (now (book .entry)) (now (index .entry)) (now (bindings .entry)) live base)) live (now (bindings .entry)) c (now (memo .exit)) (now (missing .exit)) (now (bindings .exit)) ⌝ }
+    requires { ⌜ ArmsAt (now book) (now index) r from n ⌝ ∗ ⌜ Scoped (now book) (now index) (now doubled) (now memo) (now vain) (now scope) live base ⌝ ∗ ⌜ Enough (now book) (now index) r live ⌝ }
+    ensures { λ c. ⌜ Stays (now (book .entry)) (now (index .entry)) (matchOf (now (book .entry)) (now (index .entry)) r from n (scopeOf (now (book .entry)) (now (index .entry)) (now (scope .entry)) live base)) live (now (scope .entry)) c (now (memo .exit)) (now (vain .exit)) (now (scope .exit)) ⌝ }
 {
     let e = field_at(book, index, r, 1);
     let t = type_of(book, index, e);
@@ -275,12 +231,12 @@ fn matching(
         t,
         doubled,
         memo,
-        missing,
-        bindings,
+        vain,
+        scope,
         live,
         base,
     ) {
-        Checked::Passed => expression(book, index, e, doubled, memo, missing, bindings, live, base),
+        Checked::Passed => expression(book, index, e, doubled, memo, vain, scope, live, base),
         Checked::Refused(w) => Checked::Refused(w),
     }
 }
@@ -295,13 +251,13 @@ fn arms(
     t: u16,
     doubled: &[u8],
     memo: &mut [u32],
-    missing: &mut [u8],
-    bindings: &mut [u16],
+    vain: &mut [u8],
+    scope: &mut [u16],
     live: usize,
     base: u16,
 ) -> Checked
-    requires { ⌜ ArmsAt (now book) (now index) r from n ⌝ ∗ ⌜ Places (now book) (now index) t n ⌝ ∗ ⌜ Scoped (now book) (now index) (now doubled) (now memo) (now missing) (now bindings) live base ⌝ ∗ ⌜ Enough (now book) (now index) r live ⌝ }
-    ensures { λ c. ⌜ Stays (now (book .entry)) (now (index .entry)) (armsFrom (now (book .entry)) (now (index .entry)) r from n (typeOf (now (book .entry)) (now (index .entry)) t) (scopeOf (now (book .entry)) (now (index .entry)) (now (bindings .entry)) live base) 0 n) live (now (bindings .entry)) c (now (memo .exit)) (now (missing .exit)) (now (bindings .exit)) ⌝ }
+    requires { ⌜ ArmsAt (now book) (now index) r from n ⌝ ∗ ⌜ Places (now book) (now index) t n ⌝ ∗ ⌜ Scoped (now book) (now index) (now doubled) (now memo) (now vain) (now scope) live base ⌝ ∗ ⌜ Enough (now book) (now index) r live ⌝ }
+    ensures { λ c. ⌜ Stays (now (book .entry)) (now (index .entry)) (armsFrom (now (book .entry)) (now (index .entry)) r from n (typeOf (now (book .entry)) (now (index .entry)) t) (scopeOf (now (book .entry)) (now (index .entry)) (now (scope .entry)) live base) 0 n) live (now (scope .entry)) c (now (memo .exit)) (now (vain .exit)) (now (scope .exit)) ⌝ }
 {
     let mut k: usize = 0;
     while k < n {
@@ -314,8 +270,8 @@ fn arms(
             s,
             doubled,
             memo,
-            missing,
-            bindings,
+            vain,
+            scope,
             live,
             base,
         ) {
@@ -338,40 +294,18 @@ fn arm(
     s: u16,
     doubled: &[u8],
     memo: &mut [u32],
-    missing: &mut [u8],
-    bindings: &mut [u16],
+    vain: &mut [u8],
+    scope: &mut [u16],
     live: usize,
     base: u16,
 ) -> Checked
-    requires { ⌜ ArmAt (now book) (now index) r j ⌝ ∗ ⌜ Stands (now book) (now index) s TYPE ⌝ ∗ ⌜ Scoped (now book) (now index) (now doubled) (now memo) (now missing) (now bindings) live base ⌝ ∗ ⌜ Enough (now book) (now index) r live ⌝ }
-    ensures { λ c. ⌜ Stays (now (book .entry)) (now (index .entry)) (armOf (now (book .entry)) (now (index .entry)) r j (typeOf (now (book .entry)) (now (index .entry)) s) (scopeOf (now (book .entry)) (now (index .entry)) (now (bindings .entry)) live base)) live (now (bindings .entry)) c (now (memo .exit)) (now (missing .exit)) (now (bindings .exit)) ⌝ }
+    requires { ⌜ ArmAt (now book) (now index) r j ⌝ ∗ ⌜ Stands (now book) (now index) s TYPE ⌝ ∗ ⌜ Scoped (now book) (now index) (now doubled) (now memo) (now vain) (now scope) live base ⌝ ∗ ⌜ Enough (now book) (now index) r live ⌝ }
+    ensures { λ c. ⌜ Stays (now (book .entry)) (now (index .entry)) (armOf (now (book .entry)) (now (index .entry)) r j (typeOf (now (book .entry)) (now (index .entry)) s) (scopeOf (now (book .entry)) (now (index .entry)) (now (scope .entry)) live base)) live (now (scope .entry)) c (now (memo .exit)) (now (vain .exit)) (now (scope .exit)) ⌝ }
 {
     let p = field_at(book, index, r, j);
     let e = field_at(book, index, r, j + 1);
-    match bind(
-        book,
-        index,
-        r,
-        p,
-        s,
-        doubled,
-        memo,
-        missing,
-        bindings,
-        live,
-        base,
-    ) {
-        Checked::Passed => expression(
-            book,
-            index,
-            e,
-            doubled,
-            memo,
-            missing,
-            bindings,
-            live + 1,
-            base,
-        ),
+    match bind(book, index, r, p, s, doubled, memo, vain, scope, live, base) {
+        Checked::Passed => expression(book, index, e, doubled, memo, vain, scope, live + 1, base),
         Checked::Refused(w) => Checked::Refused(w),
     }
 }
@@ -383,20 +317,20 @@ fn block(
     r: u16,
     doubled: &[u8],
     memo: &mut [u32],
-    missing: &mut [u8],
-    bindings: &mut [u16],
+    vain: &mut [u8],
+    scope: &mut [u16],
     live: usize,
     base: u16,
 ) -> Checked
-    requires { ⌜ Marked (now book) (now index) r EB ⌝ ∗ ⌜ Scoped (now book) (now index) (now doubled) (now memo) (now missing) (now bindings) live base ⌝ ∗ ⌜ Enough (now book) (now index) r live ⌝ }
-    ensures { λ c. ⌜ Stays (now (book .entry)) (now (index .entry)) (blockOf (now (book .entry)) (now (index .entry)) r (scopeOf (now (book .entry)) (now (index .entry)) (now (bindings .entry)) live base)) live (now (bindings .entry)) c (now (memo .exit)) (now (missing .exit)) (now (bindings .exit)) ⌝ }
+    requires { ⌜ Marked (now book) (now index) r EB ⌝ ∗ ⌜ Scoped (now book) (now index) (now doubled) (now memo) (now vain) (now scope) live base ⌝ ∗ ⌜ Enough (now book) (now index) r live ⌝ }
+    ensures { λ c. ⌜ Stays (now (book .entry)) (now (index .entry)) (blockOf (now (book .entry)) (now (index .entry)) r (scopeOf (now (book .entry)) (now (index .entry)) (now (scope .entry)) live base)) live (now (scope .entry)) c (now (memo .exit)) (now (vain .exit)) (now (scope .exit)) ⌝ }
 {
     let n = field_at(book, index, r, 1) as usize;
     let mut at = live;
     let mut k: usize = 0;
     while k < n {
         let s = field_at(book, index, r, 2 + k);
-        match stmt(book, index, s, doubled, memo, missing, bindings, at, base) {
+        match stmt(book, index, s, doubled, memo, vain, scope, at, base) {
             Checked::Passed => {
                 at = entered(book, index, s, at);
             }
@@ -410,7 +344,7 @@ fn block(
     if end == 65535 {
         return Checked::Passed;
     }
-    expression(book, index, end, doubled, memo, missing, bindings, at, base)
+    expression(book, index, end, doubled, memo, vain, scope, at, base)
 }
 
 // How many bindings are live after statement s.
@@ -431,35 +365,23 @@ fn stmt(
     s: u16,
     doubled: &[u8],
     memo: &mut [u32],
-    missing: &mut [u8],
-    bindings: &mut [u16],
+    vain: &mut [u8],
+    scope: &mut [u16],
     live: usize,
     base: u16,
 ) -> Checked
-    requires { ⌜ Stands (now book) (now index) s STATEMENT ⌝ ∗ ⌜ Scoped (now book) (now index) (now doubled) (now memo) (now missing) (now bindings) live base ⌝ ∗ ⌜ Enough (now book) (now index) s live ⌝ }
-    ensures { λ c. ⌜ Stated (now (book .entry)) (now (index .entry)) s live base (now (bindings .entry)) c (now (memo .exit)) (now (missing .exit)) (now (bindings .exit)) ⌝ }
+    requires { ⌜ Stands (now book) (now index) s STATEMENT ⌝ ∗ ⌜ Scoped (now book) (now index) (now doubled) (now memo) (now vain) (now scope) live base ⌝ ∗ ⌜ Enough (now book) (now index) s live ⌝ }
+    ensures { λ c. ⌜ Stated (now (book .entry)) (now (index .entry)) s live base (now (scope .entry)) c (now (memo .exit)) (now (vain .exit)) (now (scope .exit)) ⌝ }
 {
     if mark_at(book, index, s) != SA {
-        return does(book, index, s, doubled, memo, missing, bindings, live, base);
+        return does(book, index, s, doubled, memo, vain, scope, live, base);
     }
     let p = field_at(book, index, s, 0);
     let e = field_at(book, index, s, 1);
-    match expression(book, index, e, doubled, memo, missing, bindings, live, base) {
+    match expression(book, index, e, doubled, memo, vain, scope, live, base) {
         Checked::Passed => {
             let t = type_of(book, index, e);
-            bind(
-                book,
-                index,
-                s,
-                p,
-                t,
-                doubled,
-                memo,
-                missing,
-                bindings,
-                live,
-                base,
-            )
+            bind(book, index, s, p, t, doubled, memo, vain, scope, live, base)
         }
         Checked::Refused(w) => Checked::Refused(w),
     }
@@ -472,16 +394,16 @@ fn does(
     s: u16,
     doubled: &[u8],
     memo: &mut [u32],
-    missing: &mut [u8],
-    bindings: &mut [u16],
+    vain: &mut [u8],
+    scope: &mut [u16],
     live: usize,
     base: u16,
 ) -> Checked
-    requires { ⌜ Stands (now book) (now index) s STATEMENT ⌝ ∗ ⌜ (mark (now book) (now index) s ≡ SA → ⊥) ⌝ ∗ ⌜ Scoped (now book) (now index) (now doubled) (now memo) (now missing) (now bindings) live base ⌝ ∗ ⌜ Enough (now book) (now index) s live ⌝ }
-    ensures { λ c. ⌜ Stays (now (book .entry)) (now (index .entry)) (statementOf (now (book .entry)) (now (index .entry)) s (scopeOf (now (book .entry)) (now (index .entry)) (now (bindings .entry)) live base)) live (now (bindings .entry)) c (now (memo .exit)) (now (missing .exit)) (now (bindings .exit)) ⌝ }
+    requires { ⌜ Stands (now book) (now index) s STATEMENT ⌝ ∗ ⌜ (mark (now book) (now index) s ≡ SA → ⊥) ⌝ ∗ ⌜ Scoped (now book) (now index) (now doubled) (now memo) (now vain) (now scope) live base ⌝ ∗ ⌜ Enough (now book) (now index) s live ⌝ }
+    ensures { λ c. ⌜ Stays (now (book .entry)) (now (index .entry)) (statementOf (now (book .entry)) (now (index .entry)) s (scopeOf (now (book .entry)) (now (index .entry)) (now (scope .entry)) live base)) live (now (scope .entry)) c (now (memo .exit)) (now (vain .exit)) (now (scope .exit)) ⌝ }
 {
     let e = field_at(book, index, s, 0);
-    match expression(book, index, e, doubled, memo, missing, bindings, live, base) {
+    match expression(book, index, e, doubled, memo, vain, scope, live, base) {
         Checked::Passed => {
             let t = type_of(book, index, e);
             agree(is_unit(book, index, t), s)
@@ -497,11 +419,11 @@ pub fn function(
     f: u16,
     doubled: &[u8],
     memo: &mut [u32],
-    missing: &mut [u8],
-    bindings: &mut [u16],
+    vain: &mut [u8],
+    scope: &mut [u16],
 ) -> Checked
-    requires { ⌜ Stands (now book) (now index) f FUNCTION ⌝ ∗ ⌜ Rows (now book) (now index) (now doubled) (now memo) (now missing) (now bindings) ⌝ }
-    ensures { λ c. ⌜ Stays (now (book .entry)) (now (index .entry)) (checkFun (funOf (now (book .entry)) (now (index .entry)) f)) 0 (now (bindings .entry)) c (now (memo .exit)) (now (missing .exit)) (now (bindings .exit)) ⌝ }
+    requires { ⌜ Stands (now book) (now index) f FUNCTION ⌝ ∗ ⌜ Rows (now book) (now index) (now doubled) (now memo) (now vain) (now scope) ⌝ }
+    ensures { λ c. ⌜ Stays (now (book .entry)) (now (index .entry)) (checkFun (funOf (now (book .entry)) (now (index .entry)) f)) 0 (now (scope .entry)) c (now (memo .exit)) (now (vain .exit)) (now (scope .exit)) ⌝ }
 {
     if params_repeat(book, index, f) {
         return Checked::Refused(Refusal {
@@ -511,7 +433,7 @@ pub fn function(
     }
     let n = field_at(book, index, f, 1) as usize;
     let e = field_at(book, index, f, 2 + 2 * n);
-    match expression(book, index, e, doubled, memo, missing, bindings, 0, f) {
+    match expression(book, index, e, doubled, memo, vain, scope, 0, f) {
         Checked::Passed => agree(type_of(book, index, e) == field_at(book, index, f, 0), f),
         Checked::Refused(w) => Checked::Refused(w),
     }

@@ -59,17 +59,9 @@ fn records(book: &[u8], index: &[u16], n: u16) -> Checked
     let mut doubled = [0u8; 4096];
     doubles(book, index, n, &mut doubled);
     let mut memo = [0u32; 524288];
-    let mut missing = [0u8; 4096];
-    let mut bindings = [0u16; 130560];
-    expressions(
-        book,
-        index,
-        n,
-        &doubled,
-        &mut memo,
-        &mut missing,
-        &mut bindings,
-    )
+    let mut vain = [0u8; 4096];
+    let mut scope = [0u16; 130560];
+    expressions(book, index, n, &doubled, &mut memo, &mut vain, &mut scope)
 }
 
 // The functions, and then the root.
@@ -79,24 +71,14 @@ fn expressions(
     n: u16,
     doubled: &[u8],
     memo: &mut [u32],
-    missing: &mut [u8],
-    bindings: &mut [u16],
+    vain: &mut [u8],
+    scope: &mut [u16],
 ) -> Checked
-    requires { ⌜ Valid (now book) (now index) n ⌝ ∗ ⌜ Rows (now book) (now index) (now doubled) (now memo) (now missing) (now bindings) ⌝ }
+    requires { ⌜ Valid (now book) (now index) n ⌝ ∗ ⌜ Rows (now book) (now index) (now doubled) (now memo) (now vain) (now scope) ⌝ }
     ensures { λ c. ⌜ c ≡ andThen (inOrder (functionAt (now (book .entry)) (now (index .entry))) 0 n) (check (exprOf (now (book .entry)) (now (index .entry)) (n - 1)) rootScope) ⌝ }
 {
-    match functions(book, index, n, doubled, memo, missing, bindings) {
-        Checked::Passed => expression(
-            book,
-            index,
-            n - 1,
-            doubled,
-            memo,
-            missing,
-            bindings,
-            0,
-            NONE,
-        ),
+    match functions(book, index, n, doubled, memo, vain, scope) {
+        Checked::Passed => expression(book, index, n - 1, doubled, memo, vain, scope, 0, NONE),
         Checked::Refused(w) => Checked::Refused(w),
     }
 }
@@ -137,15 +119,15 @@ fn functions(
     n: u16,
     doubled: &[u8],
     memo: &mut [u32],
-    missing: &mut [u8],
-    bindings: &mut [u16],
+    vain: &mut [u8],
+    scope: &mut [u16],
 ) -> Checked
-    requires { ⌜ Valid (now book) (now index) n ⌝ ∗ ⌜ Rows (now book) (now index) (now doubled) (now memo) (now missing) (now bindings) ⌝ }
-    ensures { λ c. ⌜ Stays (now (book .entry)) (now (index .entry)) (inOrder (functionAt (now (book .entry)) (now (index .entry))) 0 n) 0 (now (bindings .entry)) c (now (memo .exit)) (now (missing .exit)) (now (bindings .exit)) ⌝ }
+    requires { ⌜ Valid (now book) (now index) n ⌝ ∗ ⌜ Rows (now book) (now index) (now doubled) (now memo) (now vain) (now scope) ⌝ }
+    ensures { λ c. ⌜ Stays (now (book .entry)) (now (index .entry)) (inOrder (functionAt (now (book .entry)) (now (index .entry))) 0 n) 0 (now (scope .entry)) c (now (memo .exit)) (now (vain .exit)) (now (scope .exit)) ⌝ }
 {
     let mut r: u16 = 0;
     while r < n {
-        match function_at(book, index, r, doubled, memo, missing, bindings) {
+        match function_at(book, index, r, doubled, memo, vain, scope) {
             Checked::Refused(w) => {
                 return Checked::Refused(w);
             }
@@ -163,14 +145,14 @@ fn function_at(
     r: u16,
     doubled: &[u8],
     memo: &mut [u32],
-    missing: &mut [u8],
-    bindings: &mut [u16],
+    vain: &mut [u8],
+    scope: &mut [u16],
 ) -> Checked
-    requires { ⌜ Among (now book) (now index) r ⌝ ∗ ⌜ Rows (now book) (now index) (now doubled) (now memo) (now missing) (now bindings) ⌝ }
-    ensures { λ c. ⌜ Stays (now (book .entry)) (now (index .entry)) (functionAt (now (book .entry)) (now (index .entry)) r) 0 (now (bindings .entry)) c (now (memo .exit)) (now (missing .exit)) (now (bindings .exit)) ⌝ }
+    requires { ⌜ Among (now book) (now index) r ⌝ ∗ ⌜ Rows (now book) (now index) (now doubled) (now memo) (now vain) (now scope) ⌝ }
+    ensures { λ c. ⌜ Stays (now (book .entry)) (now (index .entry)) (functionAt (now (book .entry)) (now (index .entry)) r) 0 (now (scope .entry)) c (now (memo .exit)) (now (vain .exit)) (now (scope .exit)) ⌝ }
 {
     if kind_of(mark_at(book, index, r)) != FUNCTION {
         return Checked::Passed;
     }
-    function(book, index, r, doubled, memo, missing, bindings)
+    function(book, index, r, doubled, memo, vain, scope)
 }
