@@ -17,8 +17,8 @@ use Rattle.book.specs.Format.{TYPE, TP}
 use Rattle.book.specs.Index.{mark, field}
 use Rattle.book.specs.Stands.{Stands}
 use Rattle.book.specs.Tree.{typeOf}
-use Rattle.shapes.specs.Shapes.{sideOf, onward, alike, isAt, halvedOf}
-use Rattle.shapes.specs.Views.{NONE, Gives, nowhere, record-of}
+use Rattle.shapes.specs.Shapes.{sideOf, onward, isAt}
+use Rattle.shapes.specs.Views.{NONE, Gives, nowhere, record-of, sameHalf, halvedOf}
 use Rattle.shapes.proofs.Same.{types-same, gives-at, gives-none, gives-some}
 use Rattle.shapes.proofs.Sides.{side-at, side-is, side-not}
 use Rattle.shapes.proofs.Powers.{Down, down-is, down-next, down-end}
@@ -43,7 +43,7 @@ halved-pair k p q a h true e = rw (← same-is p q e, both-twice) h
 halved-pair k p q a h false e = both-like p q (power a k) e
 
 halved-same : (k : ℕ) (t a : Ty) → same t (power a k) ≡ isAt (halvedOf k t) a
-unfolding halvedOf power same isAt onward alike sideOf
+unfolding halvedOf power same isAt onward sameHalf sideOf
 halved-same zero t a = refl
 halved-same (suc k) one a = refl
 halved-same (suc k) (sum p q) a = refl
@@ -63,13 +63,13 @@ module _ {b i : List ℕ} (k : ℕ) (t : Ty) {x : ℕ} (g : Gives b i (halvedOf 
   power-at {u} s = gives-at g s ∙ sym (halved-same k t (typeOf b i u))
 
 -- a type twice is one; two types are none
-alike-yes : (a : Ty) → alike (some a) (some a) ≡ some a
-unfolding alike
-alike-yes a = rw (is-same a a refl, alike)
+halves-same : (a : Ty) → sameHalf (some a) (some a) ≡ some a
+unfolding sameHalf
+halves-same a = rw (is-same a a refl, sameHalf)
 
-alike-no : (a b : Ty) → same a b ≡ false → alike (some a) (some b) ≡ none
-unfolding alike
-alike-no a b e = rw (e, alike)
+halves-other : (a b : Ty) → same a b ≡ false → sameHalf (some a) (some b) ≡ none
+unfolding sameHalf
+halves-other a b e = rw (e, sameHalf)
 
 -- halving has come to record t, of which there are n
 module _ {b i : List ℕ} {o : Option Ty} {t n : ℕ} (g : Down b i halvedOf o t n) where
@@ -80,11 +80,11 @@ module _ {b i : List ℕ} {o : Option Ty} {t n : ℕ} (g : Down b i halvedOf o t
   -- it is no pair; it is one, of two types; it is one of a type twice
   module _ (h : 1 < n) {x : ℕ} (e : x ≡ mark b i t) where
     pub halved-none : (x ≡ TP → ⊥) → Gives b i o NONE
-    unfolding halvedOf alike onward
+    unfolding halvedOf sameHalf onward
     halved-none f = nowhere refl (down-is g h ∙ rw (side-not (g .stands) e {m = TP} tt f onLeft))
 
     module _ (q : x ≡ TP) {y z : ℕ} (l : y ≡ field b i t 0) (r : z ≡ field b i t 1) where
-      halved-sides : (k : ℕ) → halvedOf (suc k) (typeOf b i t) ≡ onward (alike (some (typeOf b i y)) (some (typeOf b i z))) (halvedOf k)
+      halved-sides : (k : ℕ) → halvedOf (suc k) (typeOf b i t) ≡ onward (sameHalf (some (typeOf b i y)) (some (typeOf b i z))) (halvedOf k)
       unfolding halvedOf
       halved-sides k = rw (side-is (g .stands) e {m = TP} tt q 0 (omega arith), side-is (g .stands) e {m = TP} tt q 1 (omega arith), l, r)
 
@@ -93,8 +93,8 @@ module _ {b i : List ℕ} {o : Option Ty} {t n : ℕ} (g : Down b i halvedOf o t
 
       pub halved-unlike : (z ≡ y → ⊥) → Gives b i o NONE
       unfolding onward
-      halved-unlike f = nowhere refl (down-is g h ∙ halved-sides (topOf (n / 2)) ∙ rw (alike-no (typeOf b i y) (typeOf b i z) (sym halved-tells ∙ ne-eqb y z (λ w. f (sym w)))))
+      halved-unlike f = nowhere refl (down-is g h ∙ halved-sides (topOf (n / 2)) ∙ rw (halves-other (typeOf b i y) (typeOf b i z) (sym halved-tells ∙ ne-eqb y z (λ w. f (sym w)))))
 
       pub halved-next : z ≡ y → Down b i halvedOf o y (n / 2)
       unfolding onward
-      halved-next w = down-next g h (side-at (g .stands) e {m = TP} tt q {k = 0} (omega arith) l) (halved-sides (topOf (n / 2)) ∙ rw (w, alike-yes (typeOf b i y)))
+      halved-next w = down-next g h (side-at (g .stands) e {m = TP} tt q {k = 0} (omega arith) l) (halved-sides (topOf (n / 2)) ∙ rw (w, halves-same (typeOf b i y)))

@@ -14,8 +14,8 @@ use Rattle.book.specs.Format.{TYPE, TS, TP}
 use Rattle.book.specs.Index.{mark, field}
 use Rattle.book.specs.Stands.{Stands}
 use Rattle.book.specs.Tree.{typeOf}
-use Rattle.shapes.specs.Shapes.{onward, elementOf, blockType, listType}
-use Rattle.shapes.specs.Views.{NONE, Gives, nowhere, ListBound, sideIs}
+use Rattle.shapes.specs.Shapes.{onward, elementOf, listType}
+use Rattle.shapes.specs.Views.{NONE, Gives, nowhere, ListBound, sideIs, blockType}
 use Rattle.shapes.proofs.Sides.{first-fails, first-holds, side-at, side-is, side-not, same-not, same-product}
 use Rattle.shapes.proofs.Powers.{half-power, half-top, bound-power, bound-more, Down, down-is, down-next, down-end}
 

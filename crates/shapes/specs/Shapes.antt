@@ -9,7 +9,7 @@ use Rattle.laws.specs.Table.{both, below, at, choose}
 use Rattle.array.specs.Split.{topOf}
 use Rattle.array.specs.Path.{Side, onLeft, onRight, path}
 use Rattle.array.specs.Row.{row}
-use Rattle.simplicity.specs.Types.{Ty, one, sum, product, two, power, wordOf, fewer, same}
+use Rattle.simplicity.specs.Types.{Ty, one, sum, product, two, wordOf, fewer, same}
 use Rattle.book.specs.Tree.{Param, Expr, constant, witness, variable, tuple, list, inLeft, inRight, variant, block, match, matchEnum, jet, unwrapLeft, unwrapRight, debug, assert, panic, isNone, cast, call, listFold, arrayFold, forWhile, hash, noExpr, Exprs, noExprs, moreExprs, Arms, noArms, moreArms, Parts, noParts, moreParts, Stmts, assign, does, end, noEnd, Fun, fun}
 
 -- document 01, The book: an expression's declared type
@@ -74,9 +74,6 @@ rowType ts = row one product ts
 abbrev pub arrayType : Ty → ℕ → Ty
 arrayType a n = rowType (replicate n a)
 
-abbrev pub blockType : Ty → ℕ → Ty
-blockType a k = sum one (power a k)
-
 abbrev pub listType : Ty → ℕ → Ty
 listType a n = fewer a (topOf n - 1)
 
@@ -123,16 +120,6 @@ isAt none u = false
 -- document 01, CHECK and the meanings: a type has a place for each of n variants
 unfoldable pub hasPlaces : ℕ → Ty → Bool
 hasPlaces n t = below (λ k. isThere (placeOf sums n k t)) n
-
--- what a type is 2 ^ k of, where both halves of each pair are the same
-unfoldable pub alike : Option Ty → Option Ty → Option Ty
-alike (some a) (some b) = elim (same a b) [ true ↦ some a | false ↦ none ]
-alike (some a) none = none
-alike none b = none
-
-unfoldable pub halvedOf : ℕ → Ty → Option Ty
-halvedOf zero t = some t
-halvedOf (suc k) t = onward (alike (sideOf products onLeft t) (sideOf products onRight t)) (halvedOf k)
 
 -- document 01, Balanced trees: what a type is the lists of bound 2 ^ k of: its last block tells, which has one element
 unfoldable pub elementOf : ℕ → Ty → Option Ty

@@ -6,7 +6,7 @@ use Rattle.book.specs.Format.{TP}
 use Rattle.book.specs.Tree.{typeOf}
 use Rattle.book.proofs.Standing.{stands-begins}
 use Rattle.array.specs.Split.{topOf}
-use Rattle.shapes.specs.Shapes.{halvedOf}
+use Rattle.shapes.specs.Views.{halvedOf}
 use Rattle.shapes.proofs.Sides.{side-lies}
 use Rattle.shapes.proofs.Powers.{Down}
 use Rattle.shapes.proofs.Halves.{halved-end, halved-none, halved-unlike, halved-next}

@@ -7,7 +7,7 @@ use Rattle.array.specs.Split.{topOf}
 use Rattle.book.specs.Format.{TS}
 use Rattle.book.specs.Tree.{typeOf}
 use Rattle.book.proofs.Standing.{stands-begins}
-use Rattle.shapes.specs.Shapes.{blockType}
+use Rattle.shapes.specs.Views.{blockType}
 use Rattle.shapes.proofs.Sides.{first-fails, first-holds, same-not, same-sum, side-lies, side-at}
 use Rattle.shapes.proofs.Halves.{power-at}
 use Rattle.shapes.proofs.part.is_block.Statement.{statement}
