@@ -18,7 +18,7 @@ import os
 import re
 import sys
 
-from vectors import LISTING, ROOT, book, packed, settle
+from vectors import LISTING, ROOT, book, file_of, settle
 from booklib import decode, encode, encode_labelled
 
 UNDEFINED, TYPE, NAME = 10, 13, 14
@@ -912,13 +912,6 @@ def hand_vectors():
 
 
 # --- The file -------------------------------------------------------------------------------------------------------
-
-
-def file_of(vectors):
-    out = bytearray()
-    for _, (number, place, count), data in vectors:
-        out += packed((number, 1), (place, 2), (count, 2), (len(data), 3)) + data
-    return bytes(out)
 
 
 def complaints(vectors, data):

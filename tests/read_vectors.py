@@ -19,7 +19,7 @@ import os
 import random
 import sys
 
-from vectors import LISTING, ROOT, book, packed, settle
+from vectors import LISTING, ROOT, book, file_of, settle
 from booklib import encode
 from read_model import (
     CUT,
@@ -680,13 +680,6 @@ def changes(whole, name):
 
 
 # --- The file -----------------------------------------------------------------
-
-
-def file_of(vectors):
-    out = bytearray()
-    for _, (number, place, count), data in vectors:
-        out += packed((number, 1), (place, 2), (count, 2), (len(data), 3)) + data
-    return bytes(out)
 
 
 def complaints(hand, data):

@@ -40,6 +40,14 @@ def packed(*fields):
     return b"".join(value.to_bytes(width, "little") for value, width in fields)
 
 
+def file_of(vectors):
+    """The file of a call that is given a book alone: each book behind the answer that is due, as number, place and count."""
+    out = bytearray()
+    for _, (number, place, count), data in vectors:
+        out += packed((number, 1), (place, 2), (count, 2), (len(data), 3)) + data
+    return bytes(out)
+
+
 def table_of(text, kinds=KINDS):
     """A table from text: entries, each its kind and two numbers.
 
