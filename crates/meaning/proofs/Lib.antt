@@ -1,0 +1,5 @@
+pub mod Terms
+pub mod Agreeing
+pub mod Scopes
+pub mod Sound
+pub mod Traces
