@@ -24,7 +24,7 @@ use Rattle.cells.specs.Cells.{world, fails, refuses, Out, got, halt, bind}
 use Rattle.machine.specs.Run.{DEEP, run}
 use Rattle.run.specs.Whole.{seeds, ended, Result, refused, resultOf, afterCheck, afterRead, resulting, answerOf, cellsOf, runOf, tableOf}
 use Rattle.agreement.specs.Unfold.{valueAt}
-use Rattle.agreement.specs.Agreement.{meaningOf, Says, says-steep, says-witness, says-cells, says-stuck, says-jet, Tells, tells-value, tells-failed, tells-refused}
+use Rattle.agreement.specs.Agreement.{meaningOf, Says, says-steep, says-witness, says-cells, says-stuck, says-jet, Tells, tells-value, tells-failed, tells-refused, RefusedFor, Short}
 use Rattle.run.specs.declared.RunAnswer.{RunAnswer}
 use Rattle.run.specs.declared.RunAnswer.the-variants as answers
 use Rattle.agreement.proofs.Reading.{value-back}
@@ -59,13 +59,6 @@ meant b ws ns c n = meaningOf (given (text b (indexOf b) n) ws ns) c
 pub record Accepts (b ns : List ℕ) (c n : ℕ) : Type 0 where
   pub read : readOf b ≡ reads.Records n
   pub well : judge (text b (indexOf b) n) ns c ≡ wellFormed
-
--- a refusal with this fault; one for depth or cells, which may stand for any meaning
-abbrev pub RefusedFor : Fault → RunAnswer → Type 0
-RefusedFor f a = (w : Refusal) × (a ≡ answers.Refused w) × (w .fault ≡ f)
-
-abbrev pub Short : RunAnswer → Type 0
-Short a = RefusedFor Steep a ⊎ RefusedFor Cells a
 
 -- an answer beside its cells, and the meaning that came out: its value, read back; its failure; its being stuck; what is missing
 abbrev pub ComesOut : RunAnswer → List ℕ → Outcome → Type 0

@@ -2,6 +2,8 @@
 -- Assumes nothing.
 use Prim.Native.Nat.{ℕ, _+_, _*_, _-_}
 use mathlib.Core.List.{List}
+use mathlib.Core.Logic.{_⊎_}
+use mathlib.Core.Path.{_≡_}
 use lib.ListN.{length}
 use lib.Dec.{ltb}
 use Rattle.laws.specs.Table.{pick, both}
@@ -16,6 +18,8 @@ use Rattle.book.specs.declared.fault.Fault.the-variants.{Steep, Witness, Cells,
 use Rattle.book.specs.declared.fault.Refusal.{Refusal}
 use Rattle.nodes.specs.Given.{Text, Given, holds, entryOf}
 use Rattle.run.specs.Whole.{Result, valued, failing, refused}
+use Rattle.run.specs.declared.RunAnswer.{RunAnswer}
+use Rattle.run.specs.declared.RunAnswer.the-variants as answers
 use Rattle.agreement.specs.Unfold.{termAt, valueAt}
 
 -- document 01, CHECK and the meanings: the witness of name x and type a is the value record that the name's entry says, if it is there and of that type
@@ -42,3 +46,10 @@ pub data Tells : Result → Outcome → Type 0 where
   tells-value : {v u : ℕ} {t : List ℕ} → Tells (valued v u t) (value (valueAt t v))
   tells-failed : Tells failing failed
   tells-refused : {w : Refusal} {o : Outcome} → Says (w .fault) o → Tells (refused w) o
+
+-- document 01, Refusals 16 and 18: an answer that is a refusal with this fault; one for want of depth or cells
+abbrev pub RefusedFor : Fault → RunAnswer → Type 0
+RefusedFor f a = (w : Refusal) × (a ≡ answers.Refused w) × (w .fault ≡ f)
+
+abbrev pub Short : RunAnswer → Type 0
+Short a = RefusedFor Steep a ⊎ RefusedFor Cells a

@@ -11,7 +11,7 @@ use Rattle.array.specs.Split.{topOf}
 use Rattle.array.specs.Path.{Side, onLeft, onRight, path}
 use Rattle.array.specs.Row.{row}
 use Rattle.array.specs.Partition.{partition}
-use Rattle.simplicity.specs.Values.{Value, unit, left, right, pair, bit, word, shape, ifSum}
+use Rattle.simplicity.specs.Values.{Value, unit, left, right, pair, bit, word, shape}
 use Rattle.simplicity.specs.Outcomes.{Outcome, value, failed, stuck, missing, andThen}
 use Rattle.simplicity.specs.Jets.{jetOn}
 use Rattle.simplicity.specs.Meaning.{Witnesses}
@@ -125,7 +125,10 @@ folding f none a = stuck
 
 -- what is made of a left's value and of a right's
 abbrev pub bySide : Value → (Value → Outcome) → (Value → Outcome) → Outcome
-bySide v f g = ifSum (shape v) f g stuck
+bySide (left a) f g = f a
+bySide (right a) f g = g a
+bySide unit f g = stuck
+bySide (pair a b) f g = stuck
 
 -- document 01, CHECK and the meanings: a loop counts up from c, so many counts being left; left stops it, right carries on, and after the last count the accumulator is right
 unfoldable pub counted : (Value → ℕ → Outcome) → ℕ → ℕ → Value → Outcome

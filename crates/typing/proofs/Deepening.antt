@@ -66,7 +66,7 @@ passed-known r t (some u) e = ap some (sym (same-is t u (passed-holds _ _ r e)))
 passed-known r t none e = refused-not _ e
 
 -- what holds of the end of a group, and of each more if of what follows it, holds of the group
-group-all : {A : Type 0} (P : A → Type 0) (s : ℕ) (z : A) (add : ℕ → A → A) (j n : ℕ) → P z → ((k q : ℕ) → k ≡ j + q * s → q < n → (x : A) → P x → P (add k x)) → P (group s z add j n)
+pub group-all : {A : Type 0} (P : A → Type 0) (s : ℕ) (z : A) (add : ℕ → A → A) (j n : ℕ) → P z → ((k q : ℕ) → k ≡ j + q * s → q < n → (x : A) → P x → P (add k x)) → P (group s z add j n)
 unfolding group
 group-all P s z add j zero e each = e
 group-all P s z add j (suc n) e each = each j 0 (omega arith) (omega arith) _ (group-all P s z add (j + s) n e (λ k q o l. each k (suc q) (omega arith) (omega arith)))
@@ -146,7 +146,7 @@ module _ {b i : List ℕ} {s : ℕ} (st : Stands b i s STATEMENT) (ih : Deepen b
       (mark b i s) (stands-mark st (among (SA ∷ SE ∷ [])) tt tt) refl
 
 -- every expression's mark
-abbrev exprMarks : List ℕ
+abbrev pub exprMarks : List ℕ
 exprMarks = EC ∷ EW ∷ EV ∷ ET ∷ EL ∷ E0 ∷ E1 ∷ EN ∷ EB ∷ EM ∷ EH ∷ CJ ∷ CL ∷ CR ∷ CD ∷ CA ∷ CP ∷ CN ∷ CK ∷ CF ∷ CQ ∷ CY ∷ CW ∷ CH ∷ []
 
 -- an expression's record, over those before it

@@ -1,6 +1,6 @@
-mod Deepening
+pub mod Deepening
 mod Depths
-mod Earlier
+pub mod Earlier
 pub mod Exactly
 mod Facts
 mod Judging
