@@ -55,6 +55,32 @@ place-in (suc p) n h k = by-lt (2 ^ p) n (λ o. record { place = p; over = o; fi
 pub place-of : (n : ℕ) → 2 ≤ n → Place n
 place-of n h = place-in n n h (omega (arith, below-pow n))
 
+-- the top power of n is in it, and twice that is not
+pub record Top (n : ℕ) : Type 0 where
+  pub most : 2 ^ topOf n ≤ n
+  pub less : n < 2 ^ topOf n + 2 ^ topOf n
+
+pub top-of : (n : ℕ) → 0 < n → Top n
+top-of n h =
+    let p = place-of (suc n) (omega arith) in
+    let e : topOf n ≡ p .place = top-is (p .place) n (omega (arith, p .over)) (omega (arith, p .fits)) in
+    record { most = rw e (omega (arith, p .over)); less = rw e (omega (arith, p .fits, two-pow-succ (p .place))) }
+
+-- a larger number's top one bit is no lower
+pub top-mono : (m n : ℕ) → m ≤ n → topOf m ≤ topOf n
+unfolding topOf halvings
+top-mono zero n l = omega arith
+top-mono (suc m) n l =
+    let p = top-of (suc m) (omega arith) in
+    let q = top-of n (omega arith) in
+    omega (arith, pow-less (topOf (suc m)) (suc (topOf n)) (omega (arith, p .most, q .less, two-pow-succ (topOf n))))
+
+-- a power of two above 1 is split in halves
+pub split-power : (k : ℕ) → splitOf (2 ^ suc k) ≡ 2 ^ k
+split-power k =
+    let d = two-pow-succ k in
+    omega (arith, split-is k (2 ^ suc k) (omega (arith, d, pow-pos k)) (omega arith), d)
+
 -- neither part of two or more is empty
 pub split-some : (n : ℕ) → 2 ≤ n → 0 < splitOf n
 split-some n h = let p = place-of n h in omega (arith, split-is (p .place) n (p .over) (p .fits))

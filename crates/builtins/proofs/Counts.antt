@@ -16,7 +16,8 @@ use Rattle.named.specs.Cut.{size}
 use Rattle.named.proofs.Sizes.{Stores, stores-pure, stores-emit, stores-then, stores-select, stores-applied}
 use Rattle.builtins.specs.ArrayFold.{fArrayFold, powers, treeFold, arrayFold, FoldNodes}
 use Rattle.builtins.specs.RawHash.{addBoth, addRow, rawHash}
-use Rattle.builtins.proofs.Folds.{top-of, top-below, tree-top, tree-step}
+use Rattle.array.proofs.Splits.{top-of}
+use Rattle.builtins.proofs.Folds.{top-below, tree-top, tree-step}
 use Rattle.builtins.proofs.Hashes.{add-word, add-parts}
 
 -- the top one bit, and those of the rest

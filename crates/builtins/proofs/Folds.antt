@@ -12,24 +12,13 @@ use lib.Pow.{pow-pos, shl-exact}
 use lib.Seq.{getD-take, getD-set-same, take-set-le, take-suc, append-snoc}
 use Rattle.laws.specs.Order.{by-lt, pow-less}
 use Rattle.array.specs.Split.{topOf}
-use Rattle.array.proofs.Splits.{place-of, top-is}
+use Rattle.array.proofs.Splits.{top-of}
 use Rattle.named.specs.Trace.{Run, pure, bind}
 use Rattle.named.specs.Draws.{Draws}
 use Rattle.named.specs.declared.node.Pen.{Pen}
 use Rattle.named.proofs.Runs.{bind-bind, bind-pure}
 use Rattle.named.proofs.Pens.{draw-then, draw-there}
 use Rattle.builtins.specs.ArrayFold.{fArrayFold, powers, treeFold, arrayFold}
-
--- the top power of n is in it, and twice that is not
-pub record Top (n : ℕ) : Type 0 where
-  pub most : 2 ^ topOf n ≤ n
-  pub less : n < 2 ^ topOf n + 2 ^ topOf n
-
-pub top-of : (n : ℕ) → 0 < n → Top n
-top-of n h =
-    let p = place-of (suc n) (omega arith) in
-    let e : topOf n ≡ p .place = top-is (p .place) n (omega (arith, p .over)) (omega (arith, p .fits)) in
-    record { most = rw e (omega (arith, p .over)); less = rw e (omega (arith, p .fits, two-pow-succ (p .place))) }
 
 -- below 2 ^ k, it is at a place below k
 pub top-below : (n k : ℕ) → 0 < n → n < 2 ^ k → topOf n < k

@@ -2,11 +2,15 @@
 -- Assumes nothing.
 use mathlib.Core.List.{List, [], _∷_}
 use mathlib.Core.Path.{_≡_}
-use Rattle.simplicity.specs.Types.{Ty}
-use Rattle.simplicity.specs.Values.{Value, Of}
+use Rattle.laws.specs.Rows.{Each}
+use Rattle.array.proofs.Rows.{row-related}
+use Rattle.simplicity.specs.Types.{Ty, one, product}
+use Rattle.simplicity.specs.Values.{Value, unit, pair, Of, of-unit, of-pair}
 use Rattle.simplicity.specs.Outcomes.{Outcome, value, failed, stuck, missing}
 use Rattle.simplicity.specs.Terms.{Term}
 use Rattle.simplicity.specs.Meaning.{Witnesses, eval}
+use Rattle.shapes.specs.Shapes.{rowType}
+use Rattle.meaning.specs.Source.{rowValue}
 
 -- a value of the type, or a failure; what is missing may be so only where M says it
 abbrev pub Fine : Type 0 → Outcome → Ty → Type 0
@@ -28,3 +32,11 @@ pub data AgreesAll (M : Type 0) (ws : Witnesses) (input : Value) : List Term →
 pub data AllOf : List Value → List Ty → Type 0 where
   no-values : AllOf [] []
   and-values : {v : Value} {vs : List Value} {a : Ty} {as′ : List Ty} → Of v a → AllOf vs as′ → AllOf (v ∷ vs) (a ∷ as′)
+
+-- so each is of its own, and the row as one value is of the row's type
+pub each-of : {vs : List Value} {as′ : List Ty} → AllOf vs as′ → Each Of vs as′
+each-of no-values = tt
+each-of (and-values h hs) = (h, each-of hs)
+
+pub row-of : {vs : List Value} {as′ : List Ty} → AllOf vs as′ → Of (rowValue vs) (rowType as′)
+row-of {vs} {as′} h = row-related Of unit pair one product of-unit (λ v w a b. of-pair) vs as′ (each-of h)

@@ -19,11 +19,12 @@ use Rattle.simplicity.specs.Terms as terms
 use Rattle.simplicity.specs.Meaning.{Witnesses, eval}
 use Rattle.simplicity.specs.Typing.{Has}
 use Rattle.simplicity.proofs.Safe.{same-is}
+use Rattle.book.proofs.Picks.{both-true}
 use Rattle.book.specs.Tree.{Pat, Expr, constant, witness, variable, tuple, list, inLeft, inRight, variant, block, match, matchEnum, jet, unwrapLeft, unwrapRight, debug, assert, panic, isNone, cast, call, listFold, arrayFold, forWhile, hash, noExpr, Exprs, noExprs, moreExprs, Arms, noArms, moreArms, Parts, noParts, moreParts, Stmts, assign, does, end, noEnd, Fun, fun}
 use Rattle.compile.specs.Lower.{widths}
 use Rattle.shapes.specs.Shapes.{typeIs, types, armTypes, endType, takes, gives, whole, allAre, rowType}
 use Rattle.binders.specs.Binders.{Binding, binding, scopeIn}
-use Rattle.typing.specs.Check.{armCount, variantType}
+use Rattle.typing.specs.Check.{armCount}
 use Rattle.typing.specs.Typed.{Bindable, Typed, AllTyped, WordsTyped, ArmsTyped, RunTyped, FunTyped}
 use Rattle.meaning.specs.Source.{Held, rowValue, bound, counted, mean, means, words, arms, run, apply}
 use Rattle.meaning.specs.Source as source
@@ -31,7 +32,7 @@ use Rattle.meaning.proofs.Terms.{loop, compile, compiles, compileWords,
 use Rattle.meaning.proofs.Agreeing.{Fine, Agrees, AgreesAll, no-more, and-more, AllOf, no-values, and-values}
 use Rattle.meaning.proofs.Scopes.{Matches, at-newer, patterns}
 use Rattle.meaning.proofs.Sound.{Bound, Sound, Sounds, SoundParts, SoundArms, SoundRun, SoundFun}
-use Rattle.meaning.proofs.Declarations.{both-pass, at-left, at-right, is-sum, is-variant, same-all, all-are, is-list, Folded, is-fold, Looped, is-loop}
+use Rattle.meaning.proofs.Declarations.{at-left, at-right, is-sum, is-variant, same-all, all-are, is-list, is-fold, is-loop}
 use Rattle.meaning.proofs.Calls.{then-value, agree-called, agree-called-pair, agree-beside, agree-followed, agree-left, agree-right, agree-iden, agree-value, agree-unit, agree-fail, agree-unwrap-left, agree-unwrap-right, agree-is-none, agree-assert, agree-jet, agree-hash}
 use Rattle.meaning.proofs.Rows.{agree-row, agree-called-row, agree-list, agree-variant-row}
 use Rattle.meaning.proofs.Environments.{fits-bound, finds, params-match}
@@ -129,22 +130,22 @@ module _ {M : Type 0} {ws : Witnesses} (C : ℕ → Value → Type 0) (W : Ty �
         (bound-agrees (h .3) m (λ x names n. retyped (agree g n (h .4) (s .2)) (j .0))))
     agree (matchEnum r t e cs) m h s = agree-beside (agree e m (h .2) (s .1)) (agree-match-enum (armCount cs) (arms-count ws cs _) (s .0) (h .0) (agree-arms cs _ zero _ t m (h .1) (s .2) (h .3)))
     agree (jet r t z j es) m h s =
-        let i = both-pass _ _ (h .1) in
+        let i = both-true _ _ (h .1) in
         retyped (agree-called-row y z (agree-all es m (h .0) (s .1)) (λ vs o. agree-jet j (s .0) (subst (AllOf vs) (same-all (types es) _ (i .0)) o))) (sym (same-is t _ (i .1)))
     agree (unwrapLeft r t z e) m h s = let i = at-left (typeIs e) t (h .1) in agree-called y z (retyped (agree e m (h .0) s) (i .1)) (λ x o. agree-unwrap-left o)
     agree (unwrapRight r t z e) m h s = let i = at-right (typeIs e) t (h .1) in agree-called y z (retyped (agree e m (h .0) s) (i .1)) (λ x o. agree-unwrap-right o)
     agree (debug r t z e) m h s = retyped (rw then-value at (agree-called y z (agree e m (h .0) s) (λ x o. agree-iden o))) (same-is (typeIs e) t (h .1))
     agree (assert r t z e) m h s =
-        let i = both-pass _ _ (h .1) in
+        let i = both-true _ _ (h .1) in
         retyped (agree-called y z (retyped (agree e m (h .0) s) (same-is (typeIs e) _ (i .0))) (λ x o. agree-assert o)) (sym (same-is t one (i .1)))
     agree (panic r t z) m h s = agree-called y z agree-unit (λ x o. agree-fail)
     agree (isNone r t e) m h s =
-        let i = both-pass _ _ (h .1) in
+        let i = both-true _ _ (h .1) in
         let j = is-sum (typeIs e) (i .0) in
         retyped (agree-called y 0 (retyped (agree e m (h .0) s) (j .2)) (λ x o. agree-is-none o)) (sym (same-is t _ (i .1)))
     agree (cast r t e) m h s = retyped (agree e m (h .0) s) (same-is (typeIs e) t (h .1))
     agree (call r t f es) m h s =
-        let i = both-pass _ _ (h .2) in
+        let i = both-true _ _ (h .2) in
         retyped (agree-called-row y 0 (agree-all es m (h .0) (s .1)) (λ vs o. serves f (h .1) (s .0) vs (subst (AllOf vs) (same-all (types es) (takes f) (i .0)) o))) (sym (same-is t _ (i .1)))
     agree (listFold r t f n e a) m h s =
         let i = is-fold _ (takes f) (gives f) t (typeIs e) (typeIs a) (h .3) in

@@ -7,8 +7,6 @@ use mathlib.Core.Path.{_≡_, refl, _∙_}
 use native.Mathlib.Omega.{arith}
 use lib.Dec.{T, ltb}
 use Rattle.laws.specs.Table.{pick, both, both-left, both-right, below, all-below}
-use Rattle.laws.specs.Rows.{Each}
-use Rattle.array.proofs.Rows.{row-related}
 use Rattle.array.specs.Row.{row}
 use Rattle.array.specs.Parts.{partsIn, byParts}
 use Rattle.array.specs.Split.{notBelow, leastPower, splitOf, halvings, topOf}
@@ -24,7 +22,7 @@ use Rattle.simplicity.proofs.Safe.{safe, same-is}
 use Rattle.shapes.specs.Shapes.{rowType, jetTakes, jetGives}
 use Rattle.meaning.specs.Source.{rowValue, bySide}
 use Rattle.meaning.proofs.Terms.{bit, called, unwrapsLeft, unwrapsRight, tellsNone, rawHash}
-use Rattle.meaning.proofs.Agreeing.{Fine, Agrees, AllOf, no-values, and-values}
+use Rattle.meaning.proofs.Agreeing.{Fine, Agrees, AllOf, row-of}
 
 -- nothing more is made of a value; two things, one after the other
 pub then-value : (o : Outcome) → andThen o (λ x. value x) ≡ o
@@ -77,14 +75,6 @@ unfolding eval
 pair-then ws p q v f =
     then-then (eval ws p v) (λ x. andThen (eval ws q v) (λ z. value (values.pair x z))) f
     ∙ (λ i. andThen (eval ws p v) (λ x. then-then (eval ws q v) (λ z. value (values.pair x z)) f i))
-
--- values in a row, as one value, are of the row's type
-pub row-of : {vs : List Value} {ts : List Ty} → AllOf vs ts → Of (rowValue vs) (rowType ts)
-row-of {vs} {ts} h = row-related Of values.unit values.pair one product of-unit (λ v w a b. of-pair) vs ts (each h)
-  where
-    each : {ys : List Value} {us : List Ty} → AllOf ys us → Each Of ys us
-    each no-values = tt
-    each (and-values i k) = (i, each k)
 
 -- what the source's jets take and give is what the jets do
 abbrev agreed : ℕ → Bool

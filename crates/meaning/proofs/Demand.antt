@@ -21,8 +21,6 @@ use Rattle.book.specs.declared.fault.Refusal.{Refusal}
 use Rattle.compile.specs.Whole.{lowerOf}
 use Rattle.compile.specs.Whole as lowered
 use Rattle.compile.specs.declared.LowerAnswer.the-variants as lowers
-use Rattle.binders.specs.Binders.{rootScope}
-use Rattle.shapes.specs.Shapes.{typeIs}
 use Rattle.typing.specs.Whole.{checkOf}
 use Rattle.typing.specs.Typed.{TypedBook}
 use Rattle.typing.specs.declared.CheckAnswer.the-variants as checks
@@ -33,9 +31,8 @@ use Rattle.run.specs.Whole as ran
 use Rattle.run.specs.declared.RunAnswer.{RunAnswer}
 use Rattle.run.specs.declared.RunAnswer.the-variants as answers
 use Rattle.agreement.specs.Unfold.{termAt, valueAt}
-use Rattle.agreement.specs.Agreement.{witnessesOf, meaningOf, RefusedFor, Short}
+use Rattle.agreement.specs.Agreement.{witnessesOf, meaningOf, Short}
 use Rattle.agreement.proofs.Meaning.{Accepts, meant, ComesOut, comes-out}
-use Rattle.meaning.specs.Source.{mean}
 use Rattle.meaning.specs.Premises.{Supplied, Hashless}
 use Rattle.meaning.specs.Demand.{sourceOf, rootType, AsMeant, Demand3}
 use Rattle.meaning.proofs.Terms.{compile}

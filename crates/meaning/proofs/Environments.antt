@@ -8,12 +8,11 @@ use mathlib.Core.Path.{_≡_, refl, sym, ap, subst, _∙_}
 use native.Mathlib.Omega.{arith}
 use lib.Dec.{eqb, eqb·suc-zero}
 use lib.ListN.{length, getD}
-use Rattle.laws.specs.Rows.{Each, each-length}
+use Rattle.laws.specs.Rows.{each-length}
 use Rattle.laws.specs.Table.{pick, true-false}
 use Rattle.array.specs.Path.{Side, onLeft, onRight, path}
-use Rattle.array.proofs.Rows.{row-related}
 use Rattle.array.proofs.Paths.{path-leads}
-use Rattle.simplicity.specs.Types.{Ty, one, product}
+use Rattle.simplicity.specs.Types.{Ty}
 use Rattle.simplicity.specs.Values.{Value, unit, pair, Of, of-unit, of-left, of-right, of-pair}
 use Rattle.simplicity.specs.Outcomes.{Outcome, value, stuck}
 use Rattle.simplicity.specs.Meaning.{Witnesses, eval}
@@ -26,7 +25,7 @@ use Rattle.shapes.specs.Shapes.{products, sideOf, onward, leads, placeOf, rowTy
 use Rattle.binders.specs.Binders.{fits, fitsFrom, Binding, binding, rootScope, seek, typeFor}
 use Rattle.meaning.specs.Source.{Held, held, lookup, rowValue, half, elementAt, together, bound, boundFrom, given}
 use Rattle.meaning.proofs.Terms.{selector, fetch}
-use Rattle.meaning.proofs.Agreeing.{Agrees, AllOf, no-values, and-values}
+use Rattle.meaning.proofs.Agreeing.{Agrees, AllOf, each-of, row-of}
 use Rattle.meaning.proofs.Scopes.{Matches, at-root, at-newer, patterns}
 
 -- where something is made of an option, and it is not what is made of none, there is one
@@ -178,14 +177,6 @@ module _ {M : Type 0} {ws : Witnesses} where
           let a = i l in
           let e : lookup x (hs ++ env) ≡ lookup x env = sees p v env x b ∙ rw f in
           rw e (record { same = older ws 0 x (patterns sc) v w ∙ a .same; fine = a .fine })
-
--- a row of values that are of their types is of the row's type
-each-of : {vs : List Value} {ts : List Ty} → AllOf vs ts → Each Of vs ts
-each-of no-values = tt
-each-of (and-values h hs) = (h, each-of hs)
-
-row-of : {vs : List Value} {ts : List Ty} → AllOf vs ts → Of (rowValue vs) (rowType ts)
-row-of {vs} {ts} h = row-related Of unit pair one product of-unit (λ a b c d l r. of-pair l r) vs ts (each-of h)
 
 -- element k of a row stands at its path
 elements-row : (vs : List Value) (k : ℕ) → k < length vs → elementAt (path (length vs) k) (rowValue vs) ≡ some (getD vs k unit)

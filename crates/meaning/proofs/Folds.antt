@@ -12,7 +12,7 @@ use lib.Pow.{pow-pos}
 use Rattle.laws.specs.Order.{by-lt, pow-less}
 use Rattle.array.specs.Split.{splitOf, topOf}
 use Rattle.array.specs.Path.{path}
-use Rattle.array.proofs.Splits.{split-is, split-less, top-is, place-of}
+use Rattle.array.proofs.Splits.{split-is, split-less, split-power, top-of}
 use Rattle.array.proofs.Rows.{row-one, row-step}
 use Rattle.array.proofs.Paths.{path-one, path-left, path-right}
 use Rattle.simplicity.specs.Types.{Ty, one, product, power, fewer}
@@ -83,20 +83,12 @@ array-parts a n two =
     row-step one product (replicate n a) (omega (arith, l))
     ∙ rw (l, replicate-take (splitOf n) n a (omega arith), replicate-drop (splitOf n) n (n - splitOf n) a (omega arith))
 
--- a number lies from the power of its top one bit up to twice that
-top-of : (n : ℕ) → 0 < n → (2 ^ topOf n ≤ n) × (n < 2 ^ suc (topOf n))
-top-of n o =
-    let p = place-of (suc n) (omega arith) in
-    let l : 2 ^ p .place ≤ n = omega (arith, p .over) in
-    let u : n < 2 ^ suc (p .place) = omega (arith, p .fits) in
-    rw (top-is (p .place) n l u) (l, u)
-
 -- a power of two above 1 is twice its half
 halves : (k : ℕ) → (2 ≤ 2 ^ suc k) × (2 ^ k ≡ splitOf (2 ^ suc k)) × (2 ^ k ≡ 2 ^ suc k - splitOf (2 ^ suc k))
 halves k =
     let d : 2 ^ suc k ≡ 2 ^ k + 2 ^ k = two-pow-succ k in
-    let s : splitOf (2 ^ suc k) ≡ 2 ^ suc k - 2 ^ k = split-is k (2 ^ suc k) (omega (arith, pow-pos k)) (omega arith) in
-    (omega (arith, pow-pos k), omega arith, omega arith)
+    let s = split-power k in
+    (omega (arith, pow-pos k), sym s, omega arith)
 
 -- 2 ^ k of a type are so many in a row
 power-array : (a : Ty) (k : ℕ) → power a k ≡ arrayType a (2 ^ k)
@@ -210,7 +202,8 @@ module _ (M : Type 0) (ws : Witnesses) (f : Value → Value → Outcome) (b : Ty
     arrays-tree fs p h zero n o l u = absurd (omega arith)
     arrays-tree fs p h (suc d) n o l u =
         let q : ℕ = topOf n in
-        let t : (2 ^ q ≤ n) × (n < 2 ^ suc q) = top-of n o in
+        let t = top-of n o in
+        let double = two-pow-succ q in
         let g : Arrays (getD fs q fail) (2 ^ q) = h q (omega (arith, pow-less q (suc p) (omega arith))) in
         by-lt (2 ^ q) n
         (λ w.
@@ -249,4 +242,4 @@ pub agree-array-fold : {M : Type 0} {ws : Witnesses} (n : ℕ) → 0 < n → {t 
 unfolding foldArray
 agree-array-fold {M} {ws} n o {t = t} {f = f} {a = a} {b = b} h v c i j =
     let p : ℕ = topOf n in
-    folded M ws f b (arrays-tree M ws f b a (powers p t) p (λ k l. arrays-powers M ws f b a p k 0 k (omega arith) l (arrays-one M ws f b a h)) n n o (omega arith) (top-of n o .1) v i) c j
+    folded M ws f b (arrays-tree M ws f b a (powers p t) p (λ k l. arrays-powers M ws f b a p k 0 k (omega arith) l (arrays-one M ws f b a h)) n n o (omega arith) (omega (arith, top-of n o .less, two-pow-succ p)) v i) c j

@@ -19,3 +19,4 @@ pub mod Agreement
 pub mod Sounding
 pub mod Demand
 pub mod Panel
+pub mod Listing

@@ -99,7 +99,7 @@ module _ {M : Type 0} {ws : Witnesses} where
       agree-by (then-then (eval ws t (pair c (pair y (left unit)))) (λ s. value (pair s y)) (eval ws (case (injl (take iden)) (turn true t))))
       (meant-then (meant (h c (left unit) l (of-left of-unit))) (λ s. second))
     where
-      second : {s : Value} → Of s (sum r a) → Meant M (bySide s (λ v. value (left v)) (λ b. eval ws t (pair b (pair y (right unit))))) (bySide s (λ v. value (left v)) (λ b. next (f b (right unit)) (λ d. value (right d)))) (sum r a)
+      second : {s : Value} → Of s (sum r a) → Meant M (eval ws (case (injl (take iden)) (turn true t)) (pair s y)) (bySide s (λ v. value (left v)) (λ b. next (f b (right unit)) (λ d. value (right d)))) (sum r a)
       second (of-left i) = record { same = refl; fine = of-left i }
       second (of-right {v = b} i) =
           let m = h b (right unit) i (of-right of-unit) in

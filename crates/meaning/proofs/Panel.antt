@@ -10,7 +10,7 @@ use lib.ListN.{length, getD}
 use Rattle.array.specs.Path.{path}
 use Rattle.simplicity.specs.Types.{Ty}
 use Rattle.simplicity.specs.Values.{Value, pair}
-use Rattle.simplicity.specs.Outcomes.{value, failed, stuck, missing}
+use Rattle.simplicity.specs.Outcomes.{value, stuck, missing}
 use Rattle.simplicity.specs.Terms.{unit}
 use Rattle.simplicity.specs.Meaning.{Witnesses, eval}
 use Rattle.book.specs.Faults.{faultNumber}
@@ -28,7 +28,7 @@ use Rattle.run.specs.declared.RunAnswer.the-variants as answers
 use Rattle.agreement.specs.Unfold.{valueAt}
 use Rattle.meaning.specs.Source.{Held, behind, choose, mean, arms}
 use Rattle.meaning.specs.Premises.{Supplied}
-use Rattle.meaning.specs.Demand.{sourceOf, AsMeant}
+use Rattle.meaning.specs.Demand.{sourceOf}
 use Rattle.meaning.proofs.Terms.{compile, compileArms}
 use Rattle.meaning.proofs.Arms.{arm-chosen, arm-runs}
 use Rattle.meaning.proofs.Agreement.{arms-count}

@@ -9,11 +9,10 @@ use native.Mathlib.Omega.{arith}
 use lib.Dec.{eqb, ltb, ltb→lt}
 use lib.ListN.{getD}
 use Rattle.laws.specs.Choices.{all-chosen}
-use Rattle.laws.specs.Order.{pow-less}
 use Rattle.laws.specs.Rows.{Each}
 use Rattle.array.specs.Path.{onLeft, onRight}
-use Rattle.array.specs.Split.{halvings, topOf}
-use Rattle.array.proofs.Splits.{place-of, top-is}
+use Rattle.array.specs.Split.{topOf}
+use Rattle.array.proofs.Splits.{top-mono}
 use Rattle.array.proofs.Rows.{row-related}
 use Rattle.jet.specs.Jets.{adders, addOf}
 use Rattle.simplicity.specs.Terms.{Term, take, iden, fail, jet}
@@ -32,17 +31,6 @@ use Rattle.meaning.proofs.Traces.{Is, At, Ran, ran-pure, ran-bind, ran-
 add-jet : (w : ℕ) → addOf w < 11
 unfolding addOf
 add-jet w = ⊎-elim (λ e. omega (arith, e)) (λ t. ltb→lt _ 11 t) (all-chosen (λ k j. ltb j 11) adders w 0 tt)
-
--- a larger number's top one bit is no lower
-top-mono : (m n : ℕ) → m ≤ n → topOf m ≤ topOf n
-unfolding topOf halvings
-top-mono zero n l = omega arith
-top-mono (suc m) n l =
-    let p = place-of (suc (suc m)) (omega arith) in
-    let q = place-of (suc n) (omega arith) in
-    let u : topOf (suc m) ≡ p .place = top-is (p .place) (suc m) (omega (arith, p .over)) (omega (arith, p .fits)) in
-    let v : topOf n ≡ q .place = top-is (q .place) n (omega (arith, q .over)) (omega (arith, q .fits)) in
-    rw (u, v) (omega (arith, pow-less (p .place) (suc (q .place)) (omega (arith, p .over, q .fits))))
 
 -- the first k + 1 of a row of nodes stand before number d and are the terms at their places; the last of them is the last before d
 record Folds (g : Given) (k : ℕ) (ts : List Term) (fs : List ℕ) (d : ℕ) : Type 0 where
@@ -170,9 +158,9 @@ module _ {g : Given} (r : ℕ) where
             ran-less (ran-fold-both (left .below) (left .is) (omega (arith, folds .below (topOf n) o)) (folds .are (topOf n) o)) (λ a d at. record { below = omega arith; is = at .is; last = λ e. at .last }))
 
   -- the fold of an array by a function's node is the fold by its term
-  pub ran-array-fold : (n : ℕ) {f c : ℕ} {t : Term} → 0 < n → suc f ≡ c → Is g f t → Ran g (arrays.arrayFold r n f) c (At g (foldArray n t))
+  pub ran-array-fold : (n : ℕ) {f c : ℕ} {t : Term} → suc f ≡ c → Is g f t → Ran g (arrays.arrayFold r n f) c (At g (foldArray n t))
   unfolding arrays.arrayFold foldArray
-  ran-array-fold n l e h =
+  ran-array-fold n e h =
       ran-bind (ran-powers (topOf n) e h) (λ _ _ o folds.
       ran-less (ran-tree folds n n (omega arith)) (λ a d root. record { last = root .last refl; is = root .is }))
 

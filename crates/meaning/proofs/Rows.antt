@@ -3,7 +3,7 @@
 use Prim.Native.Nat.{ℕ, zero, suc, _^_, _≤_, _<_}
 use mathlib.Core.Bool.{Bool, true}
 use mathlib.Core.List.{List, [], _∷_}
-use mathlib.Core.Option.{some, none}
+use mathlib.Core.Option.{some, Option·none-ne-some}
 use mathlib.Core.Path.{_≡_, refl, sym, ap, ap₂, _∙_}
 use native.Mathlib.Nat.{two-pow-succ}
 use native.Mathlib.Omega.{arith}
@@ -15,7 +15,7 @@ use Rattle.array.specs.Split.{splitOf}
 use Rattle.array.specs.Path.{Side, onLeft, onRight}
 use Rattle.array.specs.Row.{row}
 use Rattle.array.specs.Partition.{partition}
-use Rattle.array.proofs.Splits.{split-is}
+use Rattle.array.proofs.Splits.{split-power}
 use Rattle.array.proofs.Rows.{lefts, rights, row-none, row-one, row-step, rows-all}
 use Rattle.array.proofs.Partitions.{partition-empty, partition-filled}
 use Rattle.simplicity.specs.Types.{Ty, one, sum, product, power, fewer, same}
@@ -140,15 +140,10 @@ row-power zero a (u ∷ []) l e = row-one one product u ∙ same-is u a (both-tr
 row-power zero a (u ∷ w ∷ us) l e = absurd (omega arith)
 row-power (suc k) a us l e =
     let d = two-pow-succ k in
-    let s : splitOf (2 ^ suc k) ≡ 2 ^ k = omega (arith, split-is k (2 ^ suc k) (omega (arith, d, pow-pos k)) (omega arith), d) in
     row-at one product (2 ^ suc k) us l (omega (arith, d, pow-pos k))
-    ∙ rw s (ap₂ product
+    ∙ rw (split-power k) (ap₂ product
     (row-power k a (take (2 ^ k) us) (length-take-le (2 ^ k) us (omega (arith, d))) (are-take a (2 ^ k) us e))
     (row-power k a (drop (2 ^ k) us) (length-drop (2 ^ k) us ∙ omega (arith, d)) (are-drop a (2 ^ k) us e)))
-
--- nothing is no type
-none-some : {a : Ty} → none ≡ some a → ⊥
-none-some e = let z : _≡_ {A = ℕ} 0 1 = cc e in omega arith
 
 module _ {M : Type 0} {ws : Witnesses} {v : Value} where
   -- a row of terms means the row of what each means
@@ -194,12 +189,12 @@ module _ {M : Type 0} {ws : Witnesses} {v : Value} where
   pub agree-variant : (ks : List Side) (t : Ty) {p : Term} {o : Outcome} {a : Ty} → leads sums ks t ≡ some a → Agrees M ws p v o a → Agrees M ws (inject ks p) v (andThen o (λ x. value (behind ks x))) t
   unfolding leads onward sideOf inject behind
   agree-variant [] t {o = o} {a = a} e h = let q : t ≡ a = cc e in rw q (agree-same (sym (then-value o)) h)
-  agree-variant (onLeft ∷ ks) one e h = absurd (none-some e)
+  agree-variant (onLeft ∷ ks) one e h = absurd (Option·none-ne-some _ e)
   agree-variant (onLeft ∷ ks) (sum b c) {o = o} e h = agree-same (then-then o _ _) (agree-left (agree-variant ks b e h))
-  agree-variant (onLeft ∷ ks) (product b c) e h = absurd (none-some e)
-  agree-variant (onRight ∷ ks) one e h = absurd (none-some e)
+  agree-variant (onLeft ∷ ks) (product b c) e h = absurd (Option·none-ne-some _ e)
+  agree-variant (onRight ∷ ks) one e h = absurd (Option·none-ne-some _ e)
   agree-variant (onRight ∷ ks) (sum b c) {o = o} e h = agree-same (then-then o _ _) (agree-right (agree-variant ks c e h))
-  agree-variant (onRight ∷ ks) (product b c) e h = absurd (none-some e)
+  agree-variant (onRight ∷ ks) (product b c) e h = absurd (Option·none-ne-some _ e)
 
   -- so of a row
   pub agree-variant-row : (ks : List Side) (t : Ty) {ts : List Term} {os : List Outcome} {as′ : List Ty} → leads sums ks t ≡ some (rowType as′) → AgreesAll M ws v ts os as′ → Agrees M ws (inject ks (rowTerm ts)) v (inTurn os (λ vs. value (behind ks (rowValue vs)))) t

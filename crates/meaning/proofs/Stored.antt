@@ -95,7 +95,7 @@ module _ {C : ℕ → Value → Type 0} {W : Ty → ℕ → ℕ → Type 0} (M :
     stored (listFold r t f n e a) sc c h =
         ran-called y r 0 (ran-two r (stored e sc c (h .2)) (λ d. stored a sc d (h .3))) (λ d. ran-bind (stored-fun f d (h .1)) (λ b k o i. ran-list-fold r n (i .last) (i .is)))
     stored (arrayFold r t f n e a) sc c h =
-        ran-called y r 0 (ran-two r (stored e sc c (h .2)) (λ d. stored a sc d (h .3))) (λ d. ran-bind (stored-fun f d (h .1)) (λ b k o i. ran-array-fold r n (h .0) (i .last) (i .is)))
+        ran-called y r 0 (ran-two r (stored e sc c (h .2)) (λ d. stored a sc d (h .3))) (λ d. ran-bind (stored-fun f d (h .1)) (λ b k o i. ran-array-fold r n (i .last) (i .is)))
     stored (forWhile r t f w a x) sc c h =
         ran-called y r 0 (ran-two r (stored a sc c (h .2)) (λ d. stored x sc d (h .3))) (λ d. ran-bind (stored-fun f d (h .1)) (λ b k o i. ran-for-while r (topOf w) (i .last) (i .is)))
     stored (hash r t s ps) sc c h = ran-called y r s (ran-bind (stored-words ps sc c (h .1)) (λ xs d l i. ran-row r i)) (λ d. ran-raw-hash r (widths ps) d)
