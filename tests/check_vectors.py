@@ -18,7 +18,7 @@ import os
 import re
 import sys
 
-from vectors import LISTING, ROOT, book, file_of, settle
+from vectors import LISTING, ROOT, Types, book, file_of, records, settle, split
 from booklib import decode, encode, encode_labelled
 
 UNDEFINED, TYPE, NAME = 10, 13, 14
@@ -38,16 +38,6 @@ BASE = """
     U: vu u; no: vl bit U; yes: vr bit U
     x: pi 1; y: pi 2; z: pi 3; any: pn; none: pt 0; xy: pt 2 x y; xx: pt 2 x x
 """
-
-
-def records(text):
-    """The records of a text in which a field may be a label as it is."""
-    for record in text.replace("\n", ";").split(";"):
-        label, colon, rest = record.rpartition(":")
-        words = rest.split()
-        if words:
-            fields = [word if word.isdigit() else f"@{word}" for word in words[1:]]
-            yield f"{label}{colon} {' '.join([words[0], *fields])}"
 
 
 def answer_of(due, labels, count):
@@ -558,46 +548,8 @@ def folds():
 # --- Every size of lists, arrays, words, rows and enums ---------------------------------------------------
 
 
-class Writer:
+class Writer(Types):
     """A book whose types are made as they are asked for, each once."""
-
-    def __init__(self):
-        self.lines = []
-        self.types = {}
-
-    def record(self, mark, *fields):
-        self.lines.append(" ".join(map(str, (mark, *fields))))
-        return len(self.lines) - 1
-
-    def type(self, *what):
-        if what not in self.types:
-            self.types[what] = self.record(*what)
-        return self.types[what]
-
-    def unit(self):
-        return self.type("tu")
-
-    def bit(self):
-        return self.type("ts", self.unit(), self.unit())
-
-    def row(self, mark, types):
-        """A balanced tree: a row of products, or an enum's sums."""
-        if len(types) == 1:
-            return types[0]
-        left = len(types) - (1 << (len(types) - 1).bit_length()) // 2
-        return self.type(mark, self.row(mark, types[:left]), self.row(mark, types[left:]))
-
-    def array(self, element, size):
-        return self.row("tp", [element] * size)
-
-    def block(self, element, size):
-        return self.type("ts", self.unit(), self.array(element, size))
-
-    def list(self, bound, element, alien=None):
-        """The type of lists; `alien` may change a block, by its size."""
-        half = bound // 2
-        block = (alien and alien(self, half)) or self.block(element, half)
-        return block if half == 1 else self.type("tp", block, self.list(half, element, alien))
 
     def witness(self, t):
         return self.record("ew", t, 0)
@@ -761,8 +713,8 @@ def has_places(size, arms):
         return True
     if size == 1:
         return False
-    left, split = (n - (1 << (n - 1).bit_length()) // 2 for n in (size, arms))
-    return has_places(left, split) and has_places(size - left, arms - split)
+    left, first = split(size), split(arms)
+    return has_places(left, first) and has_places(size - left, arms - first)
 
 
 # --- Many bindings, shared patterns -------------------------------------------------------------------------

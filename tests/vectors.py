@@ -48,6 +48,63 @@ def file_of(vectors):
     return bytes(out)
 
 
+def records(text):
+    """The records of a text in which a field may be a label as it is."""
+    for record in text.replace("\n", ";").split(";"):
+        label, colon, rest = record.rpartition(":")
+        words = rest.split()
+        if words:
+            fields = [word if word.isdigit() else f"@{word}" for word in words[1:]]
+            yield f"{label}{colon} {' '.join([words[0], *fields])}"
+
+
+def split(count):
+    """Document 01, "Balanced trees": how many of a row of 2 or more stand on the left."""
+    return count - (1 << (count - 1).bit_length()) // 2
+
+
+class Types:
+    """The records of a book whose types are made as they are asked for, each once."""
+
+    def __init__(self):
+        self.lines = []
+        self.types = {}
+
+    def record(self, mark, *fields):
+        self.lines.append(" ".join(map(str, (mark, *fields))))
+        return len(self.lines) - 1
+
+    def type(self, *what):
+        if what not in self.types:
+            self.types[what] = self.record(*what)
+        return self.types[what]
+
+    def unit(self):
+        return self.type("tu")
+
+    def bit(self):
+        return self.type("ts", self.unit(), self.unit())
+
+    def row(self, mark, types):
+        """A balanced tree: a row of products, or an enum's sums."""
+        if len(types) == 1:
+            return types[0]
+        left = split(len(types))
+        return self.type(mark, self.row(mark, types[:left]), self.row(mark, types[left:]))
+
+    def array(self, element, size):
+        return self.row("tp", [element] * size)
+
+    def block(self, element, size):
+        return self.type("ts", self.unit(), self.array(element, size))
+
+    def list(self, bound, element, alien=None):
+        """The type of lists; `alien` may change a block, by its size."""
+        half = bound // 2
+        block = (alien and alien(self, half)) or self.block(element, half)
+        return block if half == 1 else self.type("tp", block, self.list(half, element, alien))
+
+
 def table_of(text, kinds=KINDS):
     """A table from text: entries, each its kind and two numbers.
 

@@ -100,6 +100,67 @@ fn one(
     }
 }
 
+/// Holds the source meaning of each case of the program `meaning_vectors`, and
+/// its lowered runs, to the outcome that was worked out by hand. Gives how many
+/// cases there are; the program says how they are written.
+pub fn replay(mut cases: &[u8]) -> Result<usize, String> {
+    let mut count = 0;
+    while !cases.is_empty() {
+        let head = cases.get(..6).ok_or("the cases are cut")?;
+        let size = |at: usize| usize::from(u16::from_le_bytes([head[at], head[at + 1]]));
+        let (book, witnesses) = (6 + size(0), 6 + size(0) + size(2));
+        let end = witnesses + size(4);
+        let whole = cases.get(..end).ok_or("the cases are cut")?;
+        let case = Case {
+            label: format!("case {count}"),
+            book: whole[6..book].to_vec(),
+            witnesses: whole[book..witnesses].to_vec(),
+        };
+        ends(&case, &whole[witnesses..]).map_err(|why| format!("{}: {why}", case.label))?;
+        cases = &cases[end..];
+        count += 1;
+    }
+    Ok(count)
+}
+
+/// Whether a case ends as is due: with a value's kinds, or none for a failure.
+fn ends(case: &Case, due: &[u8]) -> Result<(), String> {
+    let book = book::read(&case.book).map_err(|refusal| format!("READ: {refusal:?}"))?;
+    let mut kinds = Vec::new();
+    match mean(&book, &case.witnesses, STEPS) {
+        Ok(Meaning::Value(value)) => spell(&value, &mut kinds),
+        Ok(Meaning::Failed) => {}
+        Err(premise) => return Err(format!("{premise:?}")),
+    }
+    if kinds != due {
+        return Err(format!("the source means {kinds:?}, not {due:?}"));
+    }
+    match agrees(case)? {
+        Verdict::Value | Verdict::Failed => Ok(()),
+        _ => Err("the lowered run does not end".to_string()),
+    }
+}
+
+/// The kinds of a value's parts, the whole before its parts, left before right.
+fn spell(value: &Value, kinds: &mut Vec<u8>) {
+    match &**value {
+        Tree::Unit => kinds.push(1),
+        Tree::Left(inner) => {
+            kinds.push(2);
+            spell(inner, kinds);
+        }
+        Tree::Right(inner) => {
+            kinds.push(3);
+            spell(inner, kinds);
+        }
+        Tree::Pair(a, b) => {
+            kinds.push(4);
+            spell(a, kinds);
+            spell(b, kinds);
+        }
+    }
+}
+
 fn part(cells: &[u8], cell: u16, at: usize) -> u16 {
     let from = 5 * usize::from(cell) + at;
     u16::from_le_bytes([cells[from], cells[from + 1]])

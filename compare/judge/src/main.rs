@@ -42,6 +42,12 @@ const CHECKS: &str = concat!(
     "/../../crates/check_vectors/stdin"
 );
 
+/// The cases whose outcome was worked out by hand.
+const MEANINGS: &str = concat!(
+    env!("CARGO_MANIFEST_DIR"),
+    "/../../crates/meaning_vectors/stdin"
+);
+
 /// A comparison of fewer books or tables, or with fewer failures, shows too
 /// little.
 const BOOKS: usize = 2_000;
@@ -306,6 +312,10 @@ fn replay() -> Result<(), String> {
     let checks = vectors::replay(&read(CHECKS)?, check)?;
     say(&format!(
         "the model's READ gives {reads} stored vectors, its CHECK {checks}"
+    ));
+    let meanings = demand::replay(&read(MEANINGS)?)?;
+    say(&format!(
+        "the source meaning and the lowered runs end as is due in {meanings} cases worked out by hand"
     ));
     Ok(())
 }
