@@ -327,7 +327,7 @@ g: fn five 5 1 w8 2 w8 3 w8 4 w8 5 w8 i; cf five g 5 #1 #2 #3 #4 #5
 """
 
 # A hash has no meaning here: it stands where no run comes.
-HASHES_FIRST = "w32: tp w16 w16; w64: tp w32 w32; w128: tp w64 w64; w256: tp w128 w128"
+HASHES_FIRST = "w64: tp four four; w128: tp w64 w64; w256: tp w128 w128"
 HASHES = """
     #1 | h: ch w256 6 2 8 #1 8 #2; s: sa any h; e: eb w8 1 s #2; em w8 $0 any #1 any e
     #1 | h: ch w256 0 0; g: fn w256 0 h; em w8 $0 any #1 any #2
