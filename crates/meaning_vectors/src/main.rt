@@ -22,7 +22,7 @@ use vectors::low_first;
 use vectors::print_totals;
 use vectors::print_wrong;
 
-// One more than the greatest length.
+// One more than the greatest length of a part.
 const MOST: usize = 65536;
 
 // Room for 65,535 nodes, or cells, of five bytes.
@@ -54,7 +54,7 @@ fn put_parts(row: &mut [u16], count: usize, kind: u8, left: u16, right: u16) -> 
 
 // Whether a cell has the value that is due. In the row wait the cells that are yet to be compared, the next one last: each kind takes
 // one, and puts at most two.
-fn is_value(cells: &[u8], cell: u16, due: &[u8], row: &mut [u16]) -> bool
+fn is_value_within(cells: &[u8], cell: u16, due: &[u8], row: &mut [u16]) -> bool
     requires { ⌜ length (now due) < length (now row) ⌝ }
 {
     let mut waiting = put(row, 0, cell);
@@ -75,34 +75,30 @@ fn is_value(cells: &[u8], cell: u16, due: &[u8], row: &mut [u16]) -> bool
     waiting == 0
 }
 
-// Whether a run ended as is due, over the cells that it left.
-fn is_outcome(answer: RunAnswer, cells: &[u8], due: &[u8], row: &mut [u16]) -> bool
-    requires { ⌜ length (now due) < length (now row) ⌝ }
-{
-    match answer {
-        RunAnswer::Value { cell, .. } => is_value(cells, cell, due, row),
+// The same in room for any that is due.
+fn is_value(cells: &[u8], cell: u16, due: &[u8]) -> bool {
+    let mut row = [0u16; MOST];
+    if MOST <= due.len() {
+        return false;
+    }
+    is_value_within(cells, cell, due, &mut row)
+}
+
+// The nodes, run: the outcome is the one that is due.
+fn runs_as_due(book: &[u8], witnesses: &[u8], due: &[u8], nodes: &[u8], count: u16) -> bool {
+    let mut cells = [0u8; TABLE];
+    match run(book, witnesses, nodes, count as u32, &mut cells) {
+        RunAnswer::Value { cell, .. } => is_value(&cells, cell, due),
         RunAnswer::Failed => due.len() == 0,
         RunAnswer::Refused(_) => false,
     }
 }
 
-// The book lowered, with or without symbols, and run.
-fn runs_as_due(
-    book: &[u8],
-    witnesses: &[u8],
-    due: &[u8],
-    symbols: bool,
-    nodes: &mut [u8],
-    cells: &mut [u8],
-    row: &mut [u16],
-) -> bool
-    requires { ⌜ length (now due) < length (now row) ⌝ }
-{
-    match lower(book, symbols, nodes) {
-        LowerAnswer::Nodes(count) => {
-            let answer = run(book, witnesses, nodes, count as u32, cells);
-            is_outcome(answer, cells, due, row)
-        }
+// The same for the book, lowered with or without symbols.
+fn ends_as_due(book: &[u8], witnesses: &[u8], due: &[u8], symbols: bool) -> bool {
+    let mut nodes = [0u8; TABLE];
+    match lower(book, symbols, &mut nodes) {
+        LowerAnswer::Nodes(count) => runs_as_due(book, witnesses, due, &nodes, count),
         LowerAnswer::Refused(_) => false,
     }
 }
@@ -114,62 +110,37 @@ fn passes_check(book: &[u8]) -> bool {
     }
 }
 
-// A case: CHECK passes the book, and both runs end as is due. The row has room for the parts of any value that is due.
-fn is_right(
-    book: &[u8],
-    witnesses: &[u8],
-    due: &[u8],
-    nodes: &mut [u8],
-    cells: &mut [u8],
-    row: &mut [u16],
-) -> bool {
-    if row.len() <= due.len() {
-        return false;
-    }
+// A case: CHECK passes the book, and both runs end as is due.
+fn is_right(book: &[u8], witnesses: &[u8], due: &[u8]) -> bool {
     if !passes_check(book) {
         return false;
     }
-    if !runs_as_due(book, witnesses, due, false, nodes, cells, row) {
+    if !ends_as_due(book, witnesses, due, false) {
         return false;
     }
-    runs_as_due(book, witnesses, due, true, nodes, cells, row)
+    ends_as_due(book, witnesses, due, true)
 }
 
 // The same for the next case, read into all of its parts.
-fn is_read_right(
-    book: &mut [u8],
-    witnesses: &mut [u8],
-    due: &mut [u8],
-    nodes: &mut [u8],
-    cells: &mut [u8],
-    row: &mut [u16],
-) -> bool {
+fn is_read_right(book: &mut [u8], witnesses: &mut [u8], due: &mut [u8]) -> bool {
     io::read_full(STDIN_FILENO, book);
     io::read_full(STDIN_FILENO, witnesses);
     io::read_full(STDIN_FILENO, due);
-    is_right(book, witnesses, due, nodes, cells, row)
+    is_right(book, witnesses, due)
 }
 
 // The same in room for the parts of any.
-fn is_next_right(head: [u8; 6], nodes: &mut [u8], cells: &mut [u8], row: &mut [u16]) -> bool {
+fn is_next_right(head: [u8; 6]) -> bool {
     let mut book = [0u8; MOST];
     let mut witnesses = [0u8; MOST];
     let mut due = [0u8; MOST];
     let b = low_first(head[0], head[1]) as usize;
     let w = low_first(head[2], head[3]) as usize;
     let d = low_first(head[4], head[5]) as usize;
-    is_read_right(
-        &mut book[..b],
-        &mut witnesses[..w],
-        &mut due[..d],
-        nodes,
-        cells,
-        row,
-    )
+    is_read_right(&mut book[..b], &mut witnesses[..w], &mut due[..d])
 }
 
-// Every case, over the same tables.
-fn run_all(nodes: &mut [u8], cells: &mut [u8], row: &mut [u16]) {
+fn main() {
     let mut head = [0u8; 6];
     let mut all: u64 = 0;
     let mut wrong: u64 = 0;
@@ -177,18 +148,11 @@ fn run_all(nodes: &mut [u8], cells: &mut [u8], row: &mut [u16]) {
         if io::read_full(STDIN_FILENO, &mut head) < 6 {
             break;
         }
-        if !is_next_right(head, nodes, cells, row) {
+        if !is_next_right(head) {
             print_wrong(all);
             wrong += 1;
         }
         all += 1;
     }
     print_totals(all, wrong);
-}
-
-fn main() {
-    let mut nodes = [0u8; TABLE];
-    let mut cells = [0u8; TABLE];
-    let mut row = [0u16; MOST];
-    run_all(&mut nodes, &mut cells, &mut row);
 }

@@ -1,11 +1,11 @@
--- `is_value` is safe and ends: no more cells wait than kinds were compared, and one.
+-- `is_value_within` is safe and ends: no more cells wait than kinds were compared, and one.
 -- Assumes nothing.
 use Prim.Native.Nat.{_+_, _≤_, _<_, _-_}
 use mathlib.Core.Path.{_≡_}
 use lib.ListN.{length}
 use borrow.Author.Needs.{needs}
-use Rattle.meaning_vectors.proofs.is_value.Statement.{statement}
-use Rattle.meaning_vectors.proofs.is_value.Tie as tie
+use Rattle.meaning_vectors.proofs.is_value_within.Statement.{statement}
+use Rattle.meaning_vectors.proofs.is_value_within.Tie as tie
 
 abbrev Inv-loop : tie.InvT-loop
 Inv-loop cells cell due row₀ waiting₀ k₀ row waiting k =
@@ -14,8 +14,8 @@ Inv-loop cells cell due row₀ waiting₀ k₀ row waiting k =
 abbrev μ-loop : tie.MeasureT-loop
 μ-loop cells cell due row₀ waiting₀ k₀ row waiting k = length due - k
 
-pub is-value-spec : {M : Type 1} → statement M
-is-value-spec =
+pub is-value-within-spec : {M : Type 1} → statement M
+is-value-within-spec =
     tie.close
     (tie.spec
     Inv-loop
