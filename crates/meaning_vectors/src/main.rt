@@ -129,15 +129,23 @@ fn is_read_right(book: &mut [u8], witnesses: &mut [u8], due: &mut [u8]) -> bool 
     is_right(book, witnesses, due)
 }
 
-// The same in room for the parts of any.
-fn is_next_right(head: [u8; 6]) -> bool {
+// The same in room for the parts of any, of these lengths.
+fn is_sized_right(b: u16, w: u16, d: u16) -> bool {
     let mut book = [0u8; MOST];
     let mut witnesses = [0u8; MOST];
     let mut due = [0u8; MOST];
-    let b = low_first(head[0], head[1]) as usize;
-    let w = low_first(head[2], head[3]) as usize;
-    let d = low_first(head[4], head[5]) as usize;
-    is_read_right(&mut book[..b], &mut witnesses[..w], &mut due[..d])
+    is_read_right(
+        &mut book[..b as usize],
+        &mut witnesses[..w as usize],
+        &mut due[..d as usize],
+    )
+}
+
+fn is_next_right(head: [u8; 6]) -> bool {
+    let b = low_first(head[0], head[1]);
+    let w = low_first(head[2], head[3]);
+    let d = low_first(head[4], head[5]);
+    is_sized_right(b, w, d)
 }
 
 fn main() {
