@@ -11,7 +11,7 @@ import os
 import re
 from typing import NamedTuple
 
-from vectors import LISTING, ROOT, Types, book, packed, records, split, stored
+from vectors import ROOT, Types, book, records, split, stored
 from booklib import encode_labelled, witness_list
 
 # --- Outcomes: the kinds of a value's parts, the whole before its parts ------------------------
@@ -95,7 +95,7 @@ BASE = """
 
 def bytes_of(text):
     """The records of the bytes that a text speaks of."""
-    numbers = sorted({int(number) for number in re.findall(r"\bb(\d+)\b|#(\d+)", text) for number in number if number})
+    numbers = sorted({int(number) for number in re.findall(r"(?:\bb|#)(\d+)\b", text)})
     halves = sorted({half for number in numbers for half in divmod(number, 16)})
     yield from (f"h{half}: vp w4 q{half // 4} q{half % 4}" for half in halves)
     yield from (f"b{number}: vp w8 h{number // 16} h{number % 16}" for number in numbers)
@@ -115,11 +115,16 @@ def with_constants(text):
         yield " ".join(fields)
 
 
-def case(due, text, words=""):
-    base = ";".join([BASE, *bytes_of(text + words)])
+def entries(words, labels):
+    """The witness list of some labels."""
+    return witness_list([f"@{label}" for label in words.split()], labels)
+
+
+def case(due, first, text, words=""):
+    base = ";".join([BASE, *bytes_of(text + words), first])
     lines = records(";".join([base, *with_constants(text)]))
     data, labels = encode_labelled("\n".join(lines), text)
-    return Case(text.strip(), outcome(due.strip()), data, witness_list([f"@{label}" for label in words.split()], labels))
+    return Case(text.strip(), outcome(due.strip()), data, entries(words, labels))
 
 
 def cases(text, first=""):
@@ -127,7 +132,7 @@ def cases(text, first=""):
     for line in text.splitlines():
         due, *rest = line.split("|")
         if rest:
-            yield case(due, f"{first};{rest[0]}", *rest[1:])
+            yield case(due, first, *rest)
 
 
 VALUES = """
@@ -205,15 +210,18 @@ BLOCKS = """
     #2       | s: sa any #1; eb w8 1 s #2
   patterns: a pair, a row of three, of five, one in another, an empty one and a row of one
     (#5 #3)      | p: et w16 2 #3 #5; s: sa xy p; a: ev w8 2; b: ev w8 1; c: et w16 2 a b; eb w16 1 s c
-    (#2 (#3 #1)) | p: et three 3 #1 #2 #3; s: sa xyz p; a: ev w8 2; b: ev w8 3; c: ev w8 1; d: et three 3 a b c; eb three 1 s d
-    (#3 #5)      | p: et five 5 #1 #2 #3 #4 #5; q: pt 5 any any x any y; s: sa q p; a: ev w8 1; b: ev w8 2; c: et w16 2 a b; eb w16 1 s c
+    (#2 (#3 #1)) | p: et three 3 #1 #2 #3; s: sa xyz p; a: ev w8 2; b: ev w8 3; c: ev w8 1; d: et three 3 a b c; \
+eb three 1 s d
+    (#3 #5)      | p: et five 5 #1 #2 #3 #4 #5; q: pt 5 any any x any y; s: sa q p; a: ev w8 1; b: ev w8 2; \
+c: et w16 2 a b; eb w16 1 s c
     (#4 (#3 #1)) | p: et four 4 #1 #2 #3 #4; q: pt 2 x any; r: pt 2 y z; o: pt 2 q r; s: sa o p; \
 a: ev w8 3; b: ev w8 2; c: ev w8 1; d: et three 3 a b c; eb three 1 s d
     #1           | p: pt 0; a: et u 0; s: sa p a; eb w8 1 s #1
     #6           | p: pt 1 x; s: sa p #6; a: ev w8 1; eb w8 1 s a
   the newest binding of a name; its value may use the one before
     #2       | s: sa x #1; r: sa x #2; a: ev w8 1; eb w8 2 s r a
-    #6       | s: sa x #3; a: ev w8 1; b: ev w8 1; c: cj sum 0 2 2 a b; p: pt 2 any x; r: sa p c; d: ev w8 1; eb w8 2 s r d
+    #6       | s: sa x #3; a: ev w8 1; b: ev w8 1; c: cj sum 0 2 2 a b; p: pt 2 any x; r: sa p c; d: ev w8 1; \
+eb w8 2 s r d
   a name in a newer pattern hides one name of an older, and not the other
     (#3 (#9 #2)) | p: et w16 2 #1 #2; s: sa xy p; o: et w16 2 #3 #9; q: pt 2 z x; r: sa q o; \
 a: ev w8 3; b: ev w8 1; c: ev w8 2; d: et three 3 a b c; eb three 2 s r d
@@ -242,8 +250,10 @@ MATCHES = """
     failed  | m: cp either 0; em w8 m any #1 any #1
     #1      | m: cp bit 0; a: em w8 m any #5 any #6; em w8 $0 any #1 any a
   an arm sees what is around it; its own binding hides that, and ends with it
-    (#7 #9) | s: sa y #9; m: e0 either #7; a: ev w8 1; b: ev w8 2; c: et w16 2 a b; d: et w16 2 #0 #0; e: em w16 m x c any d; eb w16 1 s e
-    (1 #9)  | s: sa y #9; m: e1 either $1; a: ev bit 1; b: ev w8 2; c: et sum 2 a b; d: et sum 2 $0 #0; e: em sum m any d x c; eb sum 1 s e
+    (#7 #9) | s: sa y #9; m: e0 either #7; a: ev w8 1; b: ev w8 2; c: et w16 2 a b; d: et w16 2 #0 #0; \
+e: em w16 m x c any d; eb w16 1 s e
+    (1 #9)  | s: sa y #9; m: e1 either $1; a: ev bit 1; b: ev w8 2; c: et sum 2 a b; d: et sum 2 $0 #0; \
+e: em sum m any d x c; eb sum 1 s e
     #7      | s: sa x #9; m: e0 either #7; a: ev w8 1; e: em w8 m x a any #0; eb w8 1 s e
     (#7 #9) | s: sa x #9; m: e0 either #7; a: ev w8 1; e: em w8 m x a any #0; b: ev w8 1; c: et w16 2 e b; eb w16 1 s c
     #9      | s: sa x #9; m: e1 either $0; a: ev w8 1; e: em w8 m any #0 y a; eb w8 1 s e
@@ -252,6 +262,12 @@ MATCHES = """
     #2      | m: e1 either $1; a: ev bit 2; b: em w8 a any #1 any #2; em w8 m any #0 y b
     #1      | m: e1 either $0; a: ev bit 2; b: em w8 a any #1 any #2; em w8 m any #0 y b
     #8      | a: em bit $0 any $1 any $0; em w8 a any #7 any #8
+  an enum's match: what is around it, and fewer arms than variants, so that the last has the rest whole
+    (#4 #9) | t3: ts u either; s: sa y #9; m: en t3 1 3 1 #4; a: ev w8 1; b: ev w8 2; c: et w16 2 a b; \
+d: et w16 2 #0 #0; \
+e: cp w16 0; o: eh w16 m 3 any d x c any e; eb w16 1 s o
+    1       | t3: ts u either; m: en t3 2 3 1 $1; a: ev either 1; b: cr bit 0 a; eh bit m 2 any $0 x b
+    failed  | t3: ts u either; m: en t3 1 3 1 #4; a: ev either 1; b: cr bit 0 a; eh bit m 2 any $0 x b
 """
 
 CALLS = """
@@ -301,22 +317,26 @@ CALLS = """
 """
 
 # g adds its two parameters; k has g add its one parameter to itself.
-ADD = "a1: ev w8 1; a2: ev w8 2; a3: cj sum 0 2 2 a1 a2; ap: pt 2 any z; as: sa ap a3; a4: ev w8 3; a5: eb w8 1 as a4; g: fn w8 2 1 w8 2 w8 a5"
+ADD = "a1: ev w8 1; a2: ev w8 2; a3: cj sum 0 2 2 a1 a2; ap: pt 2 any z; as: sa ap a3; a4: ev w8 3; \
+a5: eb w8 1 as a4; g: fn w8 2 1 w8 2 w8 a5"
 FUNCTIONS = f"""
     #5      | g: fn w8 0 #5; cf w8 g 0
     #7      | a: ev w8 1; g: fn w8 1 1 w8 a; cf w8 g 1 #7
     (#5 #3) | a: ev w8 2; b: ev w8 1; c: et w16 2 a b; g: fn w16 2 1 w8 2 w8 c; cf w16 g 2 #3 #5
-    (#3 (#1 #2)) | a: ev w8 3; b: ev w8 1; c: ev w8 2; d: et three 3 a b c; g: fn three 3 1 w8 2 w8 3 w8 d; cf three g 3 #1 #2 #3
+    (#3 (#1 #2)) | a: ev w8 3; b: ev w8 1; c: ev w8 2; d: et three 3 a b c; g: fn three 3 1 w8 2 w8 3 w8 d; \
+cf three g 3 #1 #2 #3
     (#5 ((#4 #3) (#2 #1))) | a: ev w8 5; b: ev w8 4; c: ev w8 3; d: ev w8 2; e: ev w8 1; i: et five 5 a b c d e; \
 g: fn five 5 1 w8 2 w8 3 w8 4 w8 5 w8 i; cf five g 5 #1 #2 #3 #4 #5
-    (1 #9)  | a: ev bit 2; b: ev w8 7; c: et sum 2 a b; g: fn sum 4 4 u 2 bit 9 opt 7 w8 c; n: et u 0; m: e1 opt #4; cf sum g 4 n $1 m #9
-  a function of one is called twice, and by another
+    (1 #9)  | a: ev bit 2; b: ev w8 7; c: et sum 2 a b; g: fn sum 4 4 u 2 bit 9 opt 7 w8 c; n: et u 0; m: e1 opt #4; \
+cf sum g 4 n $1 m #9
+  a function that is called twice, and one that calls another
     #7      | {ADD}; h: cf w8 g 2 #1 #2; cf w8 g 2 h #4
     #42     | {ADD}; i: ev w8 1; j: ev w8 1; l: cf w8 g 2 i j; k: fn w8 1 1 w8 l; cf w8 k 1 #21
   a function sees its parameters alone, and its caller's names stay
     (#3 #9) | a: ev w8 1; g: fn w8 1 1 w8 a; s: sa x #9; h: cf w8 g 1 #3; b: ev w8 1; c: et w16 2 h b; eb w16 1 s c
     #9      | a: ev w8 1; g: fn w8 1 1 w8 a; s: sa y #9; b: ev w8 2; h: cf w8 g 1 b; eb w8 1 s h
-    #2      | a: ev w8 1; g: fn w8 2 1 w8 2 w8 a; s: sa x #1; r: sa y #2; b: ev w8 2; c: ev w8 1; h: cf w8 g 2 b c; eb w8 2 s r h
+    #2      | a: ev w8 1; g: fn w8 2 1 w8 2 w8 a; s: sa x #1; r: sa y #2; b: ev w8 2; c: ev w8 1; h: cf w8 g 2 b c; \
+eb w8 2 s r h
   its own bindings hide its parameters
     #6      | s: sa x #6; a: ev w8 1; b: eb w8 1 s a; g: fn w8 1 1 w8 b; cf w8 g 1 #3
   arguments are worked out though no one uses them, and so is a body
@@ -334,7 +354,8 @@ HASHES = """
 """
 
 # g asserts each element and leaves the accumulator as it is.
-ASSERTING = "a1: ev bit 1; a2: ca u 31 a1; as: se a2; a3: ev w8 2; a4: eb w8 1 as a3; g: fn w8 2 1 bit 2 w8 a4; t3: tp bit w2; ob: ts u bit; s2: ts u w2; l4: tp s2 ob"
+ASSERTING = "a1: ev bit 1; a2: ca u 31 a1; as: se a2; a3: ev w8 2; a4: eb w8 1 as a3; g: fn w8 2 1 bit 2 w8 a4; \
+t3: tp bit w2; ob: ts u bit; s2: ts u w2; l4: tp s2 ob"
 FAILING_FOLDS = """
     #9     | a: et t3 3 $1 $1 $1; cy w8 g 3 a #9
     failed | a: et t3 3 $0 $1 $1; cy w8 g 3 a #9
@@ -348,9 +369,20 @@ FAILING_FOLDS = """
     failed | a: cp l4 0; cq w8 g 4 a #9
 """
 
+# g asserts that its counter is 0; then its context stops it, or not.
+COUNTING = "a1: ev bit 3; a2: cn bit a1; a3: ca u 41 a2; as: se a3; r1: ev w8 1; r2: e1 opt r1; l1: et u 0; \
+l2: e0 opt l1; \
+c1: ev bit 2; m1: em opt c1 any r2 any l2; m2: eb opt 1 as m1; g: fn opt 3 1 w8 2 bit 3 bit m2"
+FAILING_LOOPS = """
+    L ()   | cw opt g 1 #5 $1
+    failed | cw opt g 1 #5 $0
+    failed | a: cp w8 0; cw opt g 1 a $1
+    failed | a: cp bit 0; cw opt g 1 #5 a
+"""
+
 TEXTS = (
     (VALUES, ""), (LISTS, LISTS_FIRST), (WITNESSES, ""), (BLOCKS, ""), (MATCHES, ""), (CALLS, ""), (FUNCTIONS, ""),
-    (HASHES, HASHES_FIRST), (FAILING_FOLDS, ASSERTING),
+    (HASHES, HASHES_FIRST), (FAILING_FOLDS, ASSERTING), (FAILING_LOOPS, COUNTING),
 )  # fmt: skip
 
 
@@ -385,8 +417,7 @@ def examples():
         text = stored(os.path.join(ROOT, "examples", name + ".txt")).decode()
         data, labels = encode_labelled(text, name)
         for words, due in choices.items():
-            entries = witness_list([f"@{label}" for label in words.split()], labels)
-            yield Case(f"examples/{name}.txt {words}".strip(), outcome(due), data, entries)
+            yield Case(f"examples/{name}.txt {words}".strip(), outcome(due), data, entries(words, labels))
 
 
 # --- Families of every size -----------------------------------------------------------------------
@@ -413,7 +444,7 @@ class Writer(Types):
             return self.record("vu", self.unit())
         if width == 1:
             return self.record("vr" if number else "vl", self.bit(), self.value(0, 0))
-        high, low = divmod(number, 1 << width // 2)
+        high, low = divmod(number, 1 << (width // 2))
         return self.record("vp", self.word(width), self.value(high, width // 2), self.value(low, width // 2))
 
     def constant(self, number, width=4):
@@ -534,7 +565,7 @@ def bindings():
     yield writer.case("20 bindings live", nibbles(*[k % 16 for k in range(size)]))
 
 
-# Where each loop stops; None is never.  In 65,535 cells a loop of width 16 comes to no later count.
+# Where each loop stops; None is never.  A loop of width 16 has more counts than a run has cells.
 STOPS = {
     1: (0, 1, None),
     2: (0, 1, 2, 3, None),
@@ -558,7 +589,7 @@ def wide(writer, width, count):
 
 
 def halves(writer, width, count):
-    """The bytes of a counter, from two expressions that give it."""
+    """The bytes of a counter, high before low; each takes an expression of its own, which `count` makes."""
     if width < 16:
         return [wide(writer, width, count())]
     high = writer.record("pt", 2, writer.record("pi", 9), writer.record("pn"))

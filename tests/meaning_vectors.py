@@ -18,9 +18,8 @@ from vectors import ROOT, packed, settle
 from booklib import MARKS, decode
 from meaning_cases import EXAMPLES, FAILED, all_cases
 
-LEAST_CASES = 200
+LEAST_CASES = 300
 LEAST_FAILURES = 40
-MOST_PART = 65535
 MOST_STORED_BYTES = 500_000
 
 
