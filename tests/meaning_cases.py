@@ -228,6 +228,8 @@ a: ev w8 3; b: ev w8 1; c: ev w8 2; d: et three 3 a b c; eb three 2 s r d
   a block in a block: its binding ends with it, and it sees those around it
     (#2 #1)  | s: sa x #1; i: sa x #2; a: ev w8 1; b: eb w8 1 i a; c: ev w8 1; d: et w16 2 b c; eb w16 1 s d
     (#1 #2)  | s: sa x #1; i: sa y #2; a: ev w8 1; b: ev w8 2; c: et w16 2 a b; d: eb w16 1 i c; eb w16 1 s d
+    (#2 #3)  | s: sa x #1; r: sa x #2; i: sa x #3; a: ev w8 1; b: eb w8 1 i a; o: sa y b; c: ev w8 1; d: ev w8 2; \
+e: et w16 2 c d; eb w16 3 s r o e
   statements: each is worked out, in its place
     #5       | a: cj u 0 0 1 $1; s: se a; eb w8 1 s #5
     failed   | a: cj u 0 0 1 $0; s: se a; eb w8 1 s #5
