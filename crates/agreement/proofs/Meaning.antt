@@ -92,7 +92,7 @@ comes m (tells-refused {w} {o} s) = go (said s)
     go (inr (inr (inr f, e))) = inl (rw e (inr (w, refl, f)))
 
 -- an answer's form, by number
-abbrev formOf : RunAnswer → ℕ
+abbrev pub formOf : RunAnswer → ℕ
 formOf (answers.Value v u) = 0
 formOf answers.Failed = 1
 formOf (answers.Refused w) = 2

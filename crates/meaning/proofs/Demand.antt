@@ -7,7 +7,7 @@ use mathlib.Core.Logic.{_⊎_, inl, inr}
 use mathlib.Core.Path.{_≡_, refl, sym, ap, _∙_}
 use native.Mathlib.Omega.{arith}
 use Rattle.simplicity.specs.Types.{Ty}
-use Rattle.simplicity.specs.Values.{Value, unit}
+use Rattle.simplicity.specs.Values.{unit}
 use Rattle.simplicity.specs.Outcomes.{Outcome, value, failed, stuck, missing}
 use Rattle.simplicity.specs.Terms.{Term}
 use Rattle.simplicity.specs.Meaning.{eval}
@@ -32,7 +32,7 @@ use Rattle.run.specs.declared.RunAnswer.{RunAnswer}
 use Rattle.run.specs.declared.RunAnswer.the-variants as answers
 use Rattle.agreement.specs.Unfold.{termAt, valueAt}
 use Rattle.agreement.specs.Agreement.{witnessesOf, meaningOf, Short}
-use Rattle.agreement.proofs.Meaning.{Accepts, meant, ComesOut, comes-out}
+use Rattle.agreement.proofs.Meaning.{Accepts, meant, ComesOut, formOf, comes-out}
 use Rattle.meaning.specs.Premises.{Supplied, Hashless}
 use Rattle.meaning.specs.Demand.{sourceOf, rootType, AsMeant, Demand3}
 use Rattle.meaning.proofs.Terms.{compile}
@@ -84,17 +84,12 @@ module _ (b ws : List ℕ) (n : ℕ) (checked : checkOf b ≡ checks.Records n) 
     came-out : (k : ℕ) → ComesOut (runOf b ws table c k) (ran.tableOf b ws table c k) (sourceOf b n ws) ⊎ Short (runOf b ws table c k)
     came-out k = rw source-meant at (comes-out b ws table c k n (unfolded .0))
 
--- an answer's form and an outcome's, by number
+-- an outcome's way, by number
 abbrev pub wayOf : Outcome → ℕ
 wayOf (value v) = 0
 wayOf failed = 1
 wayOf stuck = 2
 wayOf missing = 3
-
-abbrev formOf : RunAnswer → ℕ
-formOf (answers.Value v u) = 0
-formOf answers.Failed = 1
-formOf (answers.Refused w) = 2
 
 -- a fine outcome that is not missing is good
 fine-good : (o : Outcome) (d : Ty) → Fine (Unit {0}) o d → (o ≡ missing → ⊥) → Good o d

@@ -23,7 +23,7 @@ use Rattle.simplicity.specs.Terms as terms
 use Rattle.simplicity.specs.Meaning.{Witnesses, eval}
 use Rattle.shapes.specs.Shapes.{arrayType}
 use Rattle.meaning.specs.Source.{half, elementAt, together, elements, listed, fold, folding}
-use Rattle.meaning.proofs.Terms.{nextArray, withBlock, nextFold, doubled, foldList, foldBoth, powers, treeFold, foldArray}
+use Rattle.meaning.proofs.Terms.{foldBoth, withBlock, nextFold, doubled, foldList, powers, treeFold, foldArray}
 use Rattle.meaning.proofs.Agreeing.{Fine, Agrees}
 
 -- rows one after another, where they are there
@@ -227,7 +227,7 @@ module _ (M : Type 0) (ws : Witnesses) (f : Value → Value → Outcome) (b : Ty
     lists-more k h g v (of-pair {w = y} (of-right {v = x} i) j) = block-folded (h x (subst (Of x) (power-array a (suc k)) i)) (g y j)
 
     lists-doubled : (k i m : ℕ) {l r : Term} → i + k ≡ m → Arrays l (2 ^ i) → Lists r i → Lists (doubled k l r) m
-    unfolding doubled nextArray foldBoth
+    unfolding doubled
     lists-doubled zero i m {r = r} e h g = subst (Lists r) (omega arith) g
     lists-doubled (suc k) i m e h g = let w = arrays-double i h in lists-doubled k (suc i) m (omega arith) w (lists-more i w g)
 

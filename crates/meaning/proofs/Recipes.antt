@@ -23,7 +23,7 @@ use Rattle.recipes.specs.ForWhile as loops
 use Rattle.builtins.specs.ArrayFold as arrays
 use Rattle.builtins.specs.RawHash as hashes
 use Rattle.nodes.specs.Given.{Given}
-use Rattle.meaning.proofs.Terms.{selector, nextArray, withBlock, nextFold, doubled, foldList, foldBoth, powers, treeFold, foldArray, turn, loopBit, adapt, loop, addBoth, addRow, rawHash}
+use Rattle.meaning.proofs.Terms.{selector, foldBoth, withBlock, nextFold, doubled, foldList, powers, treeFold, foldArray, turn, loopBit, adapt, loop, addBoth, addRow, rawHash}
 use Rattle.meaning.proofs.Terms as terms
 use Rattle.meaning.proofs.Traces.{Is, At, Ran, ran-pure, ran-bind, ran-iden, ran-unit, ran-injl, ran-drop, ran-comp, ran-case, ran-pair, ran-jet, ran-bit, ran-select}
 
@@ -63,8 +63,8 @@ module _ {g : Given} (r : ℕ) where
   ran-applied l h m i n j = ran-bind (ran-pair r m i n j) (λ _ _ o p. ran-comp r (omega arith) (p .is) (omega arith) h)
 
   -- the list fold
-  ran-next-array : {f c : ℕ} {t : Term} → f < c → Is g f t → Ran g (lists.nextArray r f) c (At g (nextArray t))
-  unfolding lists.nextArray nextArray selector
+  ran-next-array : {f c : ℕ} {t : Term} → f < c → Is g f t → Ran g (lists.nextArray r f) c (At g (foldBoth t t))
+  unfolding lists.nextArray foldBoth selector
   ran-next-array l h =
       ran-bind (ran-select r (onLeft ∷ onLeft ∷ []) _) (λ _ _ o first.
       ran-bind (ran-select r (onRight ∷ []) _) (λ _ _ p start.

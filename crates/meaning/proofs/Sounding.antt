@@ -1,6 +1,6 @@
 -- The trees of a typed book are sound: numbers in the ranges that READ assures, constants that are the book's values, witnesses that the list gives.
 -- Assumes nothing.
-use Prim.Native.Nat.{ℕ, zero, suc, _+_, _*_, _-_, _^_, _≤_, _<_}
+use Prim.Native.Nat.{ℕ, zero, suc, _+_, _*_, _-_, _^_, _<_}
 use mathlib.Core.Bool.{Bool, true, false}
 use mathlib.Core.List.{List, [], _∷_}
 use mathlib.Core.Path.{_≡_, refl, sym, ap, subst, _∙_}
@@ -9,7 +9,7 @@ use borrow.Author.Tests.{eqb-false, lt-ltb, eq-eqb}
 use lib.Dec.{T, eqb, ltb, leb, eqb→eq, ltb→lt, leb→le}
 use lib.ListN.{length, getD}
 use Rattle.laws.specs.Table.{pick, both, among, both-left, both-right, every, _also_}
-use Rattle.array.specs.Split.{topOf, halvings}
+use Rattle.array.specs.Split.{topOf}
 use Rattle.simplicity.specs.Types.{Ty}
 use Rattle.simplicity.specs.Values.{Value, Of}
 use Rattle.simplicity.specs.Outcomes.{value, missing}
@@ -23,6 +23,7 @@ use Rattle.book.specs.Tree.{Tree, Stmts, noExprs, moreExprs, noEnd, end, asExpr
 use Rattle.book.proofs.Established.{answer-valid}
 use Rattle.book.proofs.Roles.{layout, counted, field-before}
 use Rattle.book.proofs.Standing.{stands-mark, stands-tree, head-stands, head-below, head-ranged, each-stands, each-below, last-stands, last-below, tail-stands, tail-below, function-mark}
+use Rattle.parts.proofs.Numbers.{from-low, power-is, bound-halved}
 use Rattle.shapes.specs.Shapes.{types}
 use Rattle.shapes.proofs.Declared.{value-declares}
 use Rattle.nodes.specs.Given.{Text, text, given, holds, entryOf, supplies}
@@ -43,24 +44,10 @@ Constantly b v w = (T (holds b VALUE v)) × (valueOf (b .bytes) (b .index) v ≡
 abbrev pub Witnessed : Text → List ℕ → Ty → ℕ → ℕ → Type 0
 Witnessed b ws t k x = (T (holds b TYPE k)) × (typeOf (b .bytes) (b .index) k ≡ t) × (Has (witnessesOf b ws x t) t)
 
--- document 01, Numbers: a power of two; what is not below a range's low end; a bound, a power of two from 2 on; a loop's width
-power-is : (n : ℕ) → T (among powers n) → n ≡ 2 ^ topOf n
-unfolding topOf halvings
-power-is = every powers (λ y. y ≡ 2 ^ topOf y) (refl also refl also refl also refl also refl also refl also refl also refl also refl also tt)
-
-low-is : (lo hi n : ℕ) → T (within lo hi n) → lo ≤ n
-unfolding within
-low-is lo hi n t = leb→le lo n (both-left (leb lo n) (leb n hi) t)
-
+-- document 01, Numbers: a bound, a power of two from 2 on; a loop's width
 bound-is : (n : ℕ) → T (powerIn 2 256 n) → Bound n
 unfolding powerIn
-bound-is n t =
-    let e = power-is n (both-right (within 2 256 n) (among powers n) t) in
-    record { is = e; two = go (topOf n) e (low-is 2 256 n (both-left (within 2 256 n) (among powers n) t)) }
-  where
-    go : (k : ℕ) → n ≡ 2 ^ k → 2 ≤ n → 0 < k
-    go zero e h = absurd (omega arith)
-    go (suc k) e h = omega arith
+bound-is n t = record { is = power-is n (both-right (within 2 256 n) (among powers n) t); two = omega (arith, bound-halved n t .top) }
 
 width-is : (n : ℕ) → T (powerIn 1 16 n) → n ≡ 2 ^ topOf n
 unfolding powerIn
@@ -170,7 +157,7 @@ module _ (C : ℕ → Value → Type 0) (W : Ty → ℕ → ℕ → Type 0) (M :
         also (λ is. rw (expr-at EN is) (ltb→lt (x 1) (x 2) (both-left (ltb (x 1) (x 2)) (leb (x 2) 256) (beside s EN is 1 tt)), row EN is tt refl))
         also (λ is. rw (expr-at EB is) (run-row is))
         also (λ is. rw (expr-at EM is) (part EM is 1 tt refl, part EM is 3 tt refl, part EM is 5 tt refl))
-        also (λ is. rw (expr-at EH is) (rw (arms-size a 3 (x 2)) (low-is 1 256 _ (head-ranged s EH is 2 tt)), part EH is 1 tt refl, arms-row is))
+        also (λ is. rw (expr-at EH is) (rw (arms-size a 3 (x 2)) (from-low 1 256 _ (head-ranged s EH is 2 tt)), part EH is 1 tt refl, arms-row is))
         also (λ is. rw (expr-at CJ is) (omega (arith, leb→le (x 2) 2 (head-ranged s CJ is 2 tt)), row CJ is tt refl))
         also (λ is. rw (expr-at CL is) (part CL is 2 tt refl))
         also (λ is. rw (expr-at CR is) (part CR is 2 tt refl))
@@ -181,7 +168,7 @@ module _ (C : ℕ → Value → Type 0) (W : Ty → ℕ → ℕ → Type 0) (M :
         also (λ is. rw (expr-at CK is) (part CK is 1 tt refl))
         also (λ is. rw (expr-at CF is) (callee CF is tt refl, row CF is tt refl))
         also (λ is. rw (expr-at CQ is) (bound-is _ (head-ranged s CQ is 2 tt), callee CQ is tt refl, part CQ is 3 tt refl, part CQ is 4 tt refl))
-        also (λ is. rw (expr-at CY is) (low-is 1 256 _ (head-ranged s CY is 2 tt), callee CY is tt refl, part CY is 3 tt refl, part CY is 4 tt refl))
+        also (λ is. rw (expr-at CY is) (from-low 1 256 _ (head-ranged s CY is 2 tt), callee CY is tt refl, part CY is 3 tt refl, part CY is 4 tt refl))
         also (λ is. rw (expr-at CW is) (width-is _ (head-ranged s CW is 2 tt), callee CW is tt refl, part CW is 3 tt refl, part CW is 4 tt refl))
         also (λ is. rw (expr-at CH is) (g .hashes r o s is, words-row is))
         also tt)

@@ -69,10 +69,11 @@ called y s a b = pick (both y (ltb 0 s)) (comp (pair (bit false) a) (assertl (dr
 abbrev pub applied : Term → Term → Term → Term
 applied f a b = comp (pair a b) f
 
--- the list fold
-unfoldable pub nextArray : Term → Term
-nextArray f = applied f (take (drop iden)) (applied f (take (take iden)) (drop iden))
+-- two folds one after the other, of a row's left part and of its right
+unfoldable pub foldBoth : Term → Term → Term
+foldBoth l r = applied r (take (drop iden)) (applied l (take (take iden)) (drop iden))
 
+-- the list fold
 unfoldable pub withBlock : Term → Term → Term
 withBlock f g = applied g (drop (take iden)) (applied f (take iden) (drop (drop iden)))
 
@@ -81,15 +82,12 @@ nextFold f g = comp (pair (take (take iden)) (pair (take (drop iden)) (drop iden
 
 unfoldable pub doubled : ℕ → Term → Term → Term
 doubled zero f g = g
-doubled (suc k) f g = doubled k (nextArray f) (nextFold (nextArray f) g)
+doubled (suc k) f g = doubled k (foldBoth f f) (nextFold (foldBoth f f) g)
 
 unfoldable pub foldList : ℕ → Term → Term
 foldList k f = doubled k f (case (drop iden) f)
 
 -- the array fold
-unfoldable pub foldBoth : Term → Term → Term
-foldBoth l r = applied r (take (drop iden)) (applied l (take (take iden)) (drop iden))
-
 unfoldable pub powers : ℕ → Term → List Term
 powers zero f = f ∷ []
 powers (suc k) f = f ∷ powers k (foldBoth f f)

@@ -1,5 +1,5 @@
 mod Ends
 mod Lists
 pub mod Marks
-mod Numbers
+pub mod Numbers
 pub mod Spans

@@ -39,7 +39,7 @@ top-power j = top-is j (2 ^ j) (omega arith) (omega (arith, two-pow-succ j, pow-
 power-at : (j : ℕ) → 2 ^ j ≡ 2 ^ topOf (2 ^ j)
 power-at j = rw top-power
 
-power-is : (x : ℕ) → T (among powers x) → x ≡ 2 ^ topOf x
+pub power-is : (x : ℕ) → T (among powers x) → x ≡ 2 ^ topOf x
 power-is = every powers (λ y. y ≡ 2 ^ topOf y)
     (power-at 0 also power-at 1 also power-at 2 also power-at 3 also power-at 4 also power-at 5 also power-at 6 also power-at 7 also power-at 8 also tt)
 
