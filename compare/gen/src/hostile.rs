@@ -1,8 +1,14 @@
 //! Books made to be dear: shared a thousandfold, deep, wide, full. Each is
 //! what READ accepts, but for those that stand just beyond an edge.
 
+use std::sync::OnceLock;
+
+use crate::rng::Rng;
 use crate::writer::{Id, Writer, NO_END};
 use crate::Case;
+
+/// What is nested in itself.
+const NESTED: [&str; 6] = ["e0", "eb", "em", "cf", "ck", "cd"];
 
 /// Every hostile book.
 pub fn all() -> Vec<Case> {
@@ -27,13 +33,32 @@ pub fn all() -> Vec<Case> {
         of_size(65_536),
     ];
     for depth in [253, 254, 255, 256] {
-        cases.extend(
-            ["e0", "eb", "em", "cf", "ck", "cd"]
-                .iter()
-                .map(|mark| deep(mark, depth)),
-        );
+        cases.extend(NESTED.iter().map(|mark| deep(mark, depth)));
     }
     cases
+}
+
+/// They are made once.
+static ALL: OnceLock<Vec<Case>> = OnceLock::new();
+
+/// One of the shapes above in some size. A few are as large as a book can be.
+pub fn shaped(rng: &mut Rng) -> Case {
+    let depth = rng.within(1, 40);
+    match rng.weighted(&[8, 4, 4, 4, 6, 6, 8, 1, 1]) {
+        0 => shared_patterns(depth, rng.chance(1, 2).then_some(7)),
+        1 => last_of_shared_patterns(depth),
+        2 => doubling_calls(depth / 4),
+        3 => doubling_folds(depth / 4),
+        4 => doubled_values(depth),
+        5 => bindings(rng.within(250, 260)),
+        6 => {
+            let edge = rng.within(250, 256);
+            let depth = *rng.pick(&[depth, edge]);
+            deep(rng.pick::<&str>(&NESTED), depth)
+        }
+        7 => records(rng.within(4_090, 4_100)),
+        _ => rng.pick(ALL.get_or_init(all)).clone(),
+    }
 }
 
 /// The type of `depth` products of a type with itself.
@@ -175,6 +200,23 @@ fn full_scope() -> Case {
     let end = writer.row("et", &[unit], 1, &variables, &[]);
     writer.block(&statements, end);
     Case::plain("full scope".to_string(), &writer)
+}
+
+/// `count` bindings of the unit in one block and the one around it, and a
+/// variable of the first.
+fn bindings(count: usize) -> Case {
+    let mut writer = Writer::new();
+    let unit = writer.unit();
+    let bind = |writer: &mut Writer, name: usize| {
+        let (pattern, e) = (writer.name_pattern(name), writer.unit_expression());
+        writer.record("sa", &[pattern, e])
+    };
+    let outer: Vec<Id> = (0..200).map(|name| bind(&mut writer, name)).collect();
+    let inner: Vec<Id> = (200..count).map(|name| bind(&mut writer, name)).collect();
+    let end = writer.variable(unit, 0);
+    let end = writer.block(&inner, end);
+    writer.block(&outer, end);
+    Case::plain(format!("{count} bindings"), &writer)
 }
 
 /// Blocks in blocks that bind more than 256 names at once: CHECK's matter.

@@ -5,6 +5,7 @@
 
 pub mod damage;
 pub mod edges;
+pub mod fuzz;
 pub mod hostile;
 pub mod rng;
 pub mod scoped;

@@ -17,7 +17,7 @@ use crate::service::{least_room, Answer, Service, Start, FULL, LONGER};
 const LOWERBOOK: usize = 5 * 13_000;
 
 /// The model's answer in a table of `length` bytes.
-fn modelled(book: &[u8], symbols: bool, length: usize) -> Answer {
+pub fn modelled(book: &[u8], symbols: bool, length: usize) -> Answer {
     let mut table = vec![0xa5; length];
     let count = lower(book, symbols, &mut table);
     Answer::new(count.map(|count| (count as u32, 0)), table)

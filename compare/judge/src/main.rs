@@ -13,6 +13,7 @@
 
 mod answers;
 mod demand;
+mod fuzz;
 mod library;
 mod nodes;
 mod robust;
@@ -54,6 +55,10 @@ const BOOKS: usize = 2_000;
 const CHECKED: usize = 5_000;
 const TABLES: usize = 5_000;
 const FAILURES: usize = 200;
+
+/// How many inputs at random are tried before their ends are counted; so many
+/// meet every refusal.
+const CHUNK: usize = 20_000;
 
 /// Of how many books of each sort `lowerbook`'s listing is compared: it is
 /// started afresh for each.
@@ -232,15 +237,16 @@ fn compare_checks(some: usize, service: &str, start: &Start) -> Result<(), Strin
     {
         return Err(format!("CHECK in Rattle never answers {number}"));
     }
-    let (calls, spent) = service.calls();
+    let calls = service.calls();
     say(&format!(
-        "READ and CHECK in Rattle are the model's in {calls} calls on {} books ({} pass, {} refused by 10, {} by 13, {} by 14); a call takes {} microseconds",
+        "READ and CHECK in Rattle are the model's in {} calls on {} books ({} pass, {} refused by 10, {} by 13, {} by 14); a call takes {} microseconds",
+        calls.count,
         numbers.len(),
         count(&numbers, 0),
         count(&numbers, 10),
         count(&numbers, 13),
         count(&numbers, 14),
-        spent.as_micros(),
+        calls.mean.as_micros(),
     ));
     enough(numbers.len(), CHECKED, "books compared")
 }
@@ -253,12 +259,13 @@ fn compare_library(some: usize, service: &str, start: &Start) -> Result<(), Stri
     if let Some(number) = (0..=12).find(|number| !met(number)) {
         return Err(format!("LOWER in Rattle never answers {number}"));
     }
-    let (calls, spent) = service.calls();
+    let calls = service.calls();
     say(&format!(
-        "LOWER in Rattle is the model's in {calls} calls on {} books, with every refusal from 1 to 12, and the original's on {} of these; a call takes {} microseconds",
+        "LOWER in Rattle is the model's in {} calls on {} books, with every refusal from 1 to 12, and the original's on {} of these; a call takes {} microseconds",
+        calls.count,
         seen.len(),
         seen.iter().filter(|seen| seen.original).count(),
-        spent.as_micros(),
+        calls.mean.as_micros(),
     ));
     enough(seen.len(), BOOKS, "books compared")
 }
@@ -279,14 +286,42 @@ fn compare_runs(some: usize, service: &str, start: &Start) -> Result<(), String>
     let each_end: Vec<String> = runs::ends()
         .map(|end| format!("{} {}", end.tell(), count(&met, end)))
         .collect();
-    let (calls, spent) = service.calls();
+    let calls = service.calls();
     say(&format!(
-        "RUN in Rattle is the model's in {calls} calls on {} tables, {long} too long ones left out; a call takes {} microseconds; how they ended: {}",
+        "RUN in Rattle is the model's in {} calls on {} tables, {long} too long ones left out; a call takes {} microseconds; how they ended: {}",
+        calls.count,
         seen.len() - long,
-        spent.as_micros(),
+        calls.mean.as_micros(),
         each_end.join(", "),
     ));
     enough(seen.len() - long, TABLES, "tables compared")
+}
+
+/// `some` inputs at random, from a number on.
+fn fuzz(some: usize, from: usize, service: &str, start: &Start) -> Result<(), String> {
+    let service = Service::new(start, service)?;
+    let (mut tally, mut done) = (fuzz::Tally::default(), 0);
+    while done < some {
+        let few = CHUNK.min(some - done);
+        let number = |k: usize| (from + done + k) as u64;
+        for ends in work::each(few, |k| fuzz::agrees(&service, number(k))) {
+            tally.add(&ends?);
+        }
+        done += few;
+        if some > CHUNK {
+            eprintln!("judge: {done} inputs");
+        }
+    }
+    let lines = tally.lines(some >= CHUNK)?;
+    let calls = service.calls();
+    say(&format!(
+        "READ, CHECK, LOWER and RUN in Rattle are the model's on {some} inputs at random from {from} on, in {} calls; a call takes {} microseconds, the longest {} ms; how they ended, by number:",
+        calls.count,
+        calls.mean.as_micros(),
+        calls.longest.as_millis(),
+    ));
+    lines.iter().for_each(|line| say(line));
+    Ok(())
 }
 
 /// What `lowerbook` prints, against both judges.
@@ -394,7 +429,9 @@ fn main() -> ExitCode {
                 compare_listings(LISTINGS, lowerbook, &start)
             })
         }
-        _ => Err("usage: judge gate [FILE]... | nightly COUNT | store | reads COUNT | checks COUNT | library COUNT SERVICE LOWERBOOK [WORD]...".to_string()),
+        ["fuzz", some, from, service, ref under @ ..] => number(some)
+            .and_then(|some| fuzz(some, number(from)?, service, &Start { under })),
+        _ => Err("usage: judge gate [FILE]... | nightly COUNT | store | reads COUNT | checks COUNT | library COUNT SERVICE LOWERBOOK [WORD]... | fuzz COUNT FROM SERVICE [WORD]...".to_string()),
     };
     match done {
         Ok(()) => ExitCode::SUCCESS,

@@ -32,7 +32,7 @@ pub fn ends() -> impl Iterator<Item = End> {
 }
 
 impl End {
-    fn of(answer: &Answer) -> End {
+    pub fn of(answer: &Answer) -> End {
         match (answer.number, answer.count) {
             (0, 0) => End::Failed,
             (0, _) => End::Value,
@@ -40,9 +40,17 @@ impl End {
         }
     }
 
+    /// Of a call that does not fail.
+    pub fn of_number(number: u32) -> End {
+        match number {
+            0 => End::Value,
+            _ => End::Refused(number),
+        }
+    }
+
     pub fn tell(self) -> String {
         match self {
-            End::Value => "a value".to_string(),
+            End::Value => "an answer".to_string(),
             End::Failed => "FAILED".to_string(),
             End::Refused(number) => number.to_string(),
         }
@@ -140,7 +148,7 @@ pub fn families(some: usize) -> Vec<Family> {
 }
 
 /// The model's answer in cells of `length` bytes, if it takes few enough steps.
-fn modelled(given: &Table, length: usize) -> Option<Answer> {
+pub fn modelled(given: &Table, length: usize) -> Option<Answer> {
     let mut cells = vec![0xa5; length];
     let Case {
         book, witnesses, ..

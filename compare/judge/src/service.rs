@@ -3,7 +3,7 @@
 
 use std::io::{Read, Write};
 use std::process::{Child, ChildStdin, ChildStdout, Command, Stdio};
-use std::sync::Mutex;
+use std::sync::{Arc, Mutex, MutexGuard};
 use std::time::{Duration, Instant};
 
 use gen::stock::Table;
@@ -15,6 +15,9 @@ use crate::nodes::ROOM;
 /// one that is longer, which has no more room.
 pub const FULL: usize = 5 * ROOM;
 pub const LONGER: usize = FULL + 21;
+
+/// Where the request of a call that hangs is left.
+const HUNG: &str = concat!(env!("CARGO_MANIFEST_DIR"), "/../target/hung");
 
 /// What a call answers, with every byte of the table that it wrote. LOWER has
 /// no cell, and 0 stands for it.
@@ -102,18 +105,40 @@ impl Start<'_> {
     }
 }
 
+/// A call that takes longer hangs. The limit is wide, so that a busy machine
+/// does not fail a test.
+const TIME: Duration = Duration::from_secs(60);
+
+/// The request that a program works on, and since when.
+type Watched = Arc<Mutex<Option<(Instant, Vec<u8>)>>>;
+
 /// The program, with its pipes.
 struct Running {
     requests: ChildStdin,
     replies: ChildStdout,
+    watched: Watched,
     calls: usize,
     spent: Duration,
+    longest: Duration,
 }
 
 impl Running {
-    fn ask(&mut self, request: &[u8], length: usize) -> std::io::Result<Answer> {
+    fn new(start: &Start, path: &str) -> Result<Running, String> {
+        let mut child = start.program(path)?;
+        Ok(Running {
+            requests: child.stdin.take().expect("it is piped"),
+            replies: child.stdout.take().expect("it is piped"),
+            watched: Watched::default(),
+            calls: 0,
+            spent: Duration::ZERO,
+            longest: Duration::ZERO,
+        })
+    }
+
+    fn ask(&mut self, request: Vec<u8>, length: usize) -> std::io::Result<Answer> {
         let began = Instant::now();
-        self.requests.write_all(request)?;
+        self.requests.write_all(&request)?;
+        *self.watched.lock().expect("nobody panics with it") = Some((began, request));
         let mut head = [[0; 4]; 5];
         for word in &mut head {
             self.replies.read_exact(word)?;
@@ -122,7 +147,10 @@ impl Running {
         // What the reply leaves out is zero.
         let mut table = vec![0; length];
         self.replies.read_exact(&mut table[..used as usize])?;
-        self.spent += began.elapsed();
+        *self.watched.lock().expect("nobody panics with it") = None;
+        let spent = began.elapsed();
+        self.spent += spent;
+        self.longest = self.longest.max(spent);
         self.calls += 1;
         Ok(Answer {
             number,
@@ -134,24 +162,64 @@ impl Running {
     }
 }
 
-/// The program, for every thread to ask.
-pub struct Service(Mutex<Running>);
+/// Ends the judge if a call hangs, and leaves the request that it hangs on.
+fn watch(all: Vec<Watched>) {
+    loop {
+        std::thread::sleep(Duration::from_secs(1));
+        for watched in &all {
+            let watched = watched.lock().expect("nobody panics with it");
+            let Some((began, request)) = &*watched else {
+                continue;
+            };
+            if began.elapsed() > TIME {
+                let left = std::fs::write(HUNG, request);
+                eprintln!("judge: a call hangs; its request is in {HUNG}, {left:?}");
+                std::process::exit(1);
+            }
+        }
+    }
+}
+
+/// What was seen of all calls.
+pub struct Calls {
+    pub count: usize,
+    pub mean: Duration,
+    pub longest: Duration,
+}
+
+/// The program, started once for each core, for every thread to ask.
+pub struct Service(Vec<Mutex<Running>>);
 
 impl Service {
     pub fn new(start: &Start, path: &str) -> Result<Service, String> {
-        let mut child = start.program(path)?;
-        Ok(Service(Mutex::new(Running {
-            requests: child.stdin.take().expect("it is piped"),
-            replies: child.stdout.take().expect("it is piped"),
-            calls: 0,
-            spent: Duration::ZERO,
-        })))
+        let programs = std::thread::available_parallelism().map_or(1, usize::from);
+        let running = (0..programs).map(|_| Running::new(start, path));
+        let running: Vec<Running> = running.collect::<Result<_, _>>()?;
+        let watched = running.iter().map(|one| one.watched.clone()).collect();
+        std::thread::spawn(move || watch(watched));
+        Ok(Service(running.into_iter().map(Mutex::new).collect()))
     }
 
-    /// How many calls there were, and how long one took.
-    pub fn calls(self) -> (usize, Duration) {
-        let running = self.0.into_inner().expect("no judge panicked");
-        (running.calls, running.spent / running.calls.max(1) as u32)
+    /// How many calls there were, how long one took, and the longest.
+    pub fn calls(self) -> Calls {
+        let running = self.0.into_iter();
+        let running: Vec<Running> = running
+            .map(|one| one.into_inner().expect("no judge panicked"))
+            .collect();
+        let count: usize = running.iter().map(|one| one.calls).sum();
+        let spent: Duration = running.iter().map(|one| one.spent).sum();
+        let longest = running.iter().map(|one| one.longest).max();
+        Calls {
+            count,
+            mean: spent / count.max(1) as u32,
+            longest: longest.unwrap_or_default(),
+        }
+    }
+
+    /// A program that is idle, or the first.
+    fn idle(&self) -> MutexGuard<'_, Running> {
+        let idle = self.0.iter().find_map(|one| one.try_lock().ok());
+        idle.unwrap_or_else(|| self.0[0].lock().expect("no judge panics with it"))
     }
 
     /// LOWER, into a table of `length` bytes.
@@ -190,9 +258,8 @@ impl Service {
         let mut request = first.to_vec();
         request.extend(numbers.iter().flat_map(|&n| (n as u32).to_le_bytes()));
         request.extend(slices.concat());
-        let mut running = self.0.lock().expect("no judge panics with it");
-        running
-            .ask(&request, length)
+        self.idle()
+            .ask(request, length)
             .map_err(|error| format!("no answer in Rattle, here or in a call beside it: {error}"))
     }
 }
