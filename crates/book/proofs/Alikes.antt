@@ -1,6 +1,6 @@
 -- When two types are alike, and when one is alike an earlier one, a law for each way through.
 -- Assumes nothing.
-use Prim.Native.Nat.{ℕ, suc, _+_, _-_, _≤_, _<_}
+use Prim.Native.Nat.{ℕ, _+_, _≤_, _<_}
 use mathlib.Core.Path.{_≡_, refl, sym, ap, _∙_}
 use mathlib.Core.Bool.{Bool, true, false}
 use mathlib.Core.Logic.{inr}
@@ -70,17 +70,3 @@ module _ (b i : List ℕ) (r p m : ℕ) (is : m ≡ markAt b p) where
   pub repeats-some : kindOf m ≡ TYPE → (t : Bool) → some (λ j. alike b p (getD i j 0)) r ≡ t → t ≡ repeats b i r p
   unfolding repeats kindAt
   repeats-some e t s = rw (← is, eq-eqb (kindOf m) TYPE e) (sym s)
-
--- a test passes below n, where it passes at the number before n, and goes on below that, where it does not
-module _ (f : ℕ → Bool) (n : ℕ) (more : 0 < n) where
-  pub some-here : f (n - 1) ≡ true → some f n ≡ true
-  some-here e = let q : n ≡ suc (n - 1) = omega arith in rw q (here (n - 1) e)
-    where
-      here : (k : ℕ) → f k ≡ true → some f (suc k) ≡ true
-      here k e = rw e
-
-  pub some-on : f (n - 1) ≡ false → some f (n - 1) ≡ some f n
-  some-on e = let q : n ≡ suc (n - 1) = omega arith in sym (on (n - 1) e) ∙ ap (some f) (sym q)
-    where
-      on : (k : ℕ) → f k ≡ false → some f (suc k) ≡ some f k
-      on k e = rw e

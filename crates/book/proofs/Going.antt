@@ -1,7 +1,7 @@
 -- READ's loop: what is left of the book answers for it all.
 -- Assumes nothing.
 use Prim.Native.Nat.{ℕ, suc, _+_, _-_, _≤_, _<_}
-use mathlib.Core.Path.{_≡_, sym, ap, _∙_}
+use mathlib.Core.Path.{_≡_, sym, ap, subst, _∙_}
 use mathlib.Core.Bool.{true, false}
 use mathlib.Core.List.{List}
 use native.Mathlib.Omega.{arith}
@@ -10,7 +10,7 @@ use lib.ListN.{length, replicate}
 use Rattle.laws.specs.Table.{both, both-left, both-right}
 use Rattle.book.specs.Faults.{refusal}
 use Rattle.book.specs.Read.{State, state, on, stop, step, Outcome, done, refused, loose, records, start, sized, reading, answerOf, placesOf, readOf, indexOf}
-use Rattle.book.specs.Ready.{Ready, movedOf, outcomeOf}
+use Rattle.book.specs.Ready.{Ready, Chained, Carried, movedOf, outcomeOf}
 use Rattle.book.specs.declared.fault.Fault.{Fault}
 use Rattle.book.specs.declared.fault.Fault.the-variants.{Records, Size}
 use Rattle.book.specs.declared.fault.Refusal.{Refusal}
@@ -22,9 +22,10 @@ use Rattle.book.proofs.Course.{over, onward, halts, full}
 use Rattle.book.proofs.Moves.{moves}
 
 -- READ has come to record r at p with these rows, and what it will answer from here is o
-pub record Going (b : List ℕ) (o : Outcome) (i nm ds : List ℕ) (p r : ℕ) : Type 0 where
+pub record Going (b : List ℕ) (o : Outcome) (i nm ds cs : List ℕ) (p r : ℕ) : Type 0 where
   pub left : records (4096 - r) b (state p r i nm ds) ≡ o
   pub ready : Ready b i nm ds r
+  pub chained : Chained b i cs r
   pub inside : p ≤ length b
   pub begun : 0 < p → 0 < r
 
@@ -45,22 +46,28 @@ module _ (b : List ℕ) (s : State) (r : ℕ) where
   ended h = sym (over b s _ h)
 
 -- the code's answer on a record, beside the rows that it left
-module _ (b : List ℕ) (o : Outcome) (i nm ds : List ℕ) (p r : ℕ) (g : Going b o i nm ds p r) (h : p < length b) (l : r < 4096)
-    (v : Next) (i′ nm′ ds′ : List ℕ) (is : movedOf v r i′ nm′ ds′ ≡ step b (state p r i nm ds)) where
+module _ (b : List ℕ) (o : Outcome) (i nm ds cs : List ℕ) (p r : ℕ) (g : Going b o i nm ds cs p r) (h : p < length b) (l : r < 4096)
+    (v : Next) (i′ nm′ ds′ cs′ : List ℕ) (is : (movedOf v r i′ nm′ ds′ ≡ step b (state p r i nm ds)) × Carried v b i′ cs′ r) where
   pub going-bad : (f : Fault) → v ≡ nexts.Bad f → refused (refusal f r) ≡ o
-  going-bad f e = stopped b (state p r i nm ds) r h l f (sym (ap (λ (u : Next). movedOf u r i′ nm′ ds′) e) ∙ is) ∙ g .left
+  going-bad f e = stopped b (state p r i nm ds) r h l f (sym (ap (λ (u : Next). movedOf u r i′ nm′ ds′) e) ∙ is .0) ∙ g .left
 
   module _ (e : ℕ) (at : v ≡ nexts.At e) where
     moved : on (state e (r + 1) i′ nm′ ds′) ≡ step b (state p r i nm ds)
-    moved = sym (ap (λ (u : Next). movedOf u r i′ nm′ ds′) at) ∙ is
+    moved = sym (ap (λ (u : Next). movedOf u r i′ nm′ ds′) at) ∙ is .0
 
     pub going-further : p < e
     going-further = moves b (state p r i nm ds) (state e (r + 1) i′ nm′ ds′) (g .ready) l (sym moved) .further
 
-    pub going-on : Going b o i′ nm′ ds′ e (r + 1)
+    pub going-on : Going b o i′ nm′ ds′ cs′ e (r + 1)
     going-on =
         let w = moves b (state p r i nm ds) (state e (r + 1) i′ nm′ ds′) (g .ready) l (sym moved) in
-        record { left = gone-on b (state p r i nm ds) r h l _ moved ∙ g .left; ready = w .ready; inside = w .inside; begun = λ z. omega arith }
+        record {
+          left = gone-on b (state p r i nm ds) r h l _ moved ∙ g .left;
+          ready = w .ready;
+          chained = subst (λ (u : Next). Carried u b i′ cs′ r) at (is .1);
+          inside = w .inside;
+          begun = λ z. omega arith;
+        }
 
 -- a book of a right size has 1 to 65,535 bytes
 pub sized-is : (n : ℕ) → sized n ≡ true → (0 < n) × (n < 65536)

@@ -1,5 +1,6 @@
 mod Alikes
 pub mod Built
+mod Chains
 pub mod Complete
 pub mod Course
 pub mod Depths

@@ -33,12 +33,12 @@ below-swap f g (suc n) = rw (eqb-swap (f n) (g n), below-swap f g n)
 
 module _ (b : List ℕ) (p q : ℕ) (e : wordAt b p ≡ wordAt b q) where
   -- the same letters are the same mark
-  marks-same : markAt b p ≡ markAt b q
+  pub marks-same : markAt b p ≡ markAt b q
   unfolding markAt
   marks-same = rw e
 
   -- and the same kind
-  kinds-same : kindAt b p ≡ kindAt b q
+  pub kinds-same : kindAt b p ≡ kindAt b q
   unfolding kindAt
   kinds-same = rw marks-same
 

@@ -1,12 +1,13 @@
 -- What READ's parts ask of the rows that they are lent, and how their answers say what READ does.
 -- Assumes nothing.
-use Prim.Native.Nat.{ℕ, _+_, _≤_, _<_}
+use Prim.Native.Nat.{ℕ, _+_, _*_, _-_, _%_, _≤_, _<_}
 use mathlib.Core.Path.{_≡_}
 use mathlib.Core.List.{List}
-use lib.ListN.{length, getD}
+use lib.ListN.{length, getD, set}
 use lib.Dec.{eqb, ltb}
 use Rattle.laws.specs.Table.{pick}
-use Rattle.book.specs.Read.{markAt, countAt, endAt, Verdict, good, bad, state, Moved, on, stop, Outcome, done, refused}
+use Rattle.book.specs.Format.{wordAt, TYPE, TU}
+use Rattle.book.specs.Read.{markAt, kindAt, countAt, endAt, Verdict, good, bad, state, Moved, on, stop, Outcome, done, refused}
 use Rattle.book.specs.declared.fault.Fault.the-variants.{Cut, Mark}
 use Rattle.book.specs.declared.fault.ReadAnswer.{ReadAnswer}
 use Rattle.book.specs.declared.fault.ReadAnswer.the-variants as answers
@@ -42,6 +43,31 @@ pub record Ready (b i nm ds : List ℕ) (r : ℕ) : Type 0 where
   pub rows : Rows b i r
   pub noted : length nm ≡ 4096
   pub deep : length ds ≡ 4096
+
+-- where the chain of the type at p begins in the row of chains, behind an entry for each record: its mark and fields say which
+unfoldable pub chainOf : List ℕ → ℕ → ℕ
+chainOf b p = pick (eqb (markAt b p) TU) 4096 (4096 + (67 * wordAt b (p + 2) + 2 * wordAt b (p + 4) + markAt b p) % 1024)
+
+-- a chain that goes on at n comes to record j: n is a record's number and one more, that record's entry has the next n, and 0 ends it
+pub data Reaches (cs : List ℕ) (j : ℕ) : ℕ → Type 0 where
+  here : {n : ℕ} → n ≡ j + 1 → Reaches cs j n
+  later : {n : ℕ} → 0 < n → Reaches cs j (getD cs (n - 1) 0) → Reaches cs j n
+
+-- each type among the first r records is in its chain, and chains lead to earlier records only
+pub record Chained (b i cs : List ℕ) (r : ℕ) : Type 0 where
+  pub long : length cs ≡ 5120
+  pub falls : (j : ℕ) → j < 4096 → getD cs j 0 ≤ j
+  pub heads : (h : ℕ) → 4096 ≤ h → h < 5120 → getD cs h 0 ≤ r
+  pub reached : (j : ℕ) → j < r → kindAt b (getD i j 0) ≡ TYPE → Reaches cs j (getD cs (chainOf b (getD i j 0)) 0)
+
+-- the row of chains once record r, at p, has its place: a type is the newest of its chain
+unfoldable pub joined : List ℕ → List ℕ → ℕ → ℕ → List ℕ
+joined b cs r p = pick (eqb (kindAt b p) TYPE) (set (set cs r (getD cs (chainOf b p) 0)) (chainOf b p) (r + 1)) cs
+
+-- an answer that goes on leaves record r in the chains too
+abbrev pub Carried : Next → List ℕ → List ℕ → List ℕ → ℕ → Type 0
+Carried (nexts.At p) b i cs r = Chained b i cs (r + 1)
+Carried (nexts.Bad f) b i cs r = Unit {0}
 
 -- what is known of the record at p once its mark is known; once its letters are read
 unfoldable pub frameFrom : List ℕ → ℕ → Frame

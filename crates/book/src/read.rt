@@ -5,7 +5,7 @@ ghost use Prim.Native.Nat.{ℕ, _+_, _*_, _-_, _≤_, _<_};
 ghost use lib.ListN.{length};
 ghost use Rattle.book.specs.Format.{TYPE, kindOf};
 ghost use Rattle.book.specs.Read.{markAt, kindAt, countIn, countAt, totalAt, endAt, roleAt, names, deeper, once, refer, judge, fields, alike, repeats, state, settle, step, isUnnamed, loose, records, sized, readOf, indexOf, good};
-ghost use Rattle.book.specs.Ready.{Framed, Opens, Rows, Ready, frameFrom, frameOf, verdictOf, movedOf, outcomeOf};
+ghost use Rattle.book.specs.Ready.{Framed, Opens, Rows, Ready, chainOf, Chained, joined, Carried, frameFrom, frameOf, verdictOf, movedOf, outcomeOf};
 use crate::fault::Fault;
 use crate::fault::ReadAnswer;
 use crate::fault::Refusal;
@@ -245,23 +245,49 @@ fn is_alike(book: &[u8], at: usize, mark: u8, other: usize) -> bool
     word(book, at + 2) == word(book, other + 2)
 }
 
-// Whether a type is alike one of the first r records.
-fn is_repeated(book: &[u8], index: &[u16], r: usize, at: usize, mark: u8) -> bool
-    requires { ⌜ Rows (now book) (now index) r ⌝ ∗ ⌜ Framed (now book) at ⌝ ∗ ⌜ mark ≡ markAt (now book) at ⌝ }
+// Where a type's chain begins in the row of chains, behind an entry for each record. Alike types have one chain; the factors spread the others.
+fn chain_of(book: &[u8], at: usize, mark: u8) -> usize
+    requires { ⌜ Framed (now book) at ⌝ ∗ ⌜ mark ≡ markAt (now book) at ⌝ ∗ ⌜ kindOf mark ≡ TYPE ⌝ ∗ ⌜ length (now book) < 65536 ⌝ }
+    ensures { λ r. ⌜ (r ≡ chainOf (now (book .entry)) at) × (r < 5120) ⌝ }
+{
+    if mark == TU {
+        return 4096;
+    }
+    let first = word(book, at + 2) as usize;
+    let second = word(book, at + 4) as usize;
+    4096 + (67 * first + 2 * second + (mark as usize)) % 1024
+}
+
+// Whether a type is alike one of the first r records: along its chain, from the newest back. A number there is a record's and one more; 0 ends the chain.
+fn is_repeated(book: &[u8], index: &[u16], chains: &[u16], r: usize, at: usize, mark: u8) -> bool
+    requires { ⌜ Rows (now book) (now index) r ⌝ ∗ ⌜ Framed (now book) at ⌝ ∗ ⌜ mark ≡ markAt (now book) at ⌝ ∗ ⌜ Chained (now book) (now index) (now chains) r ⌝ }
     ensures { λ v. ⌜ v ≡ repeats (now (book .entry)) (now (index .entry)) r at ⌝ }
 {
     if kind_of(mark) != TYPE {
         return false;
     }
-    let mut j = r;
+    let mut j = chains[chain_of(book, at, mark)] as usize;
     while 0 < j {
-        j -= 1;
-        let other = index[j] as usize;
+        let other = index[j - 1] as usize;
         if is_alike(book, at, mark, other) {
             return true;
         }
+        j = chains[j - 1] as usize;
     }
     false
+}
+
+// A type becomes the newest of its chain, and leads on to the one that was.
+fn join_chain(book: &[u8], chains: &mut [u16], r: usize, at: usize, mark: u8)
+    requires { ⌜ length (now chains) ≡ 5120 ⌝ ∗ ⌜ r < 4096 ⌝ ∗ ⌜ Framed (now book) at ⌝ ∗ ⌜ mark ≡ markAt (now book) at ⌝ ∗ ⌜ length (now book) < 65536 ⌝ }
+    ensures { λ _. ⌜ now (chains .exit) ≡ joined (now (book .entry)) (now (chains .entry)) r at ⌝ }
+{
+    if kind_of(mark) != TYPE {
+        return;
+    }
+    let chain = chain_of(book, at, mark);
+    chains[r] = chains[chain];
+    chains[chain] = (r + 1) as u16;
 }
 
 // A type that is new, a depth that is not too great: the record takes its place.
@@ -269,16 +295,17 @@ fn settle_record(
     book: &[u8],
     index: &mut [u16],
     depths: &mut [u8],
+    chains: &mut [u16],
     r: usize,
     at: usize,
     mark: u8,
     deep: u8,
     end: usize,
 ) -> Next
-    requires { ⌜ Rows (now book) (now index) r ⌝ ∗ ⌜ length (now depths) ≡ 4096 ⌝ ∗ ⌜ r < 4096 ⌝ ∗ ⌜ Opens (now book) at mark (countAt (now book) at) end ⌝ }
-    ensures { λ v. ⌜ ((nm m : List ℕ) → movedOf v r (now (index .exit)) nm (now (depths .exit)) ≡ settle (now (book .entry)) (state at r (now (index .entry)) m (now (depths .entry))) (good nm deep)) ⌝ }
+    requires { ⌜ Rows (now book) (now index) r ⌝ ∗ ⌜ length (now depths) ≡ 4096 ⌝ ∗ ⌜ r < 4096 ⌝ ∗ ⌜ Opens (now book) at mark (countAt (now book) at) end ⌝ ∗ ⌜ Chained (now book) (now index) (now chains) r ⌝ }
+    ensures { λ v. ⌜ ((nm m : List ℕ) → movedOf v r (now (index .exit)) nm (now (depths .exit)) ≡ settle (now (book .entry)) (state at r (now (index .entry)) m (now (depths .entry))) (good nm deep)) × Carried v (now (book .entry)) (now (index .exit)) (now (chains .exit)) r ⌝ }
 {
-    if is_repeated(book, index, r, at, mark) {
+    if is_repeated(book, index, chains, r, at, mark) {
         return Next::Bad(Fault::Twice);
     }
     if deep == 255 {
@@ -286,6 +313,7 @@ fn settle_record(
     }
     index[r] = at as u16;
     depths[r] = deep + 1;
+    join_chain(book, chains, r, at, mark);
     Next::At(end)
 }
 
@@ -295,18 +323,21 @@ fn read_record(
     index: &mut [u16],
     named: &mut [u8],
     depths: &mut [u8],
+    chains: &mut [u16],
     r: usize,
     at: usize,
 ) -> Next
-    requires { ⌜ Ready (now book) (now index) (now named) (now depths) r ⌝ ∗ ⌜ r < 4096 ⌝ ∗ ⌜ at < length (now book) ⌝ }
-    ensures { λ v. ⌜ movedOf v r (now (index .exit)) (now (named .exit)) (now (depths .exit)) ≡ step (now (book .entry)) (state at r (now (index .entry)) (now (named .entry)) (now (depths .entry))) ⌝ }
+    requires { ⌜ Ready (now book) (now index) (now named) (now depths) r ⌝ ∗ ⌜ r < 4096 ⌝ ∗ ⌜ at < length (now book) ⌝ ∗ ⌜ Chained (now book) (now index) (now chains) r ⌝ }
+    ensures { λ v. ⌜ (movedOf v r (now (index .exit)) (now (named .exit)) (now (depths .exit)) ≡ step (now (book .entry)) (state at r (now (index .entry)) (now (named .entry)) (now (depths .entry)))) × Carried v (now (book .entry)) (now (index .exit)) (now (chains .exit)) r ⌝ }
 {
     match frame_of(book, at) {
         Frame::Bad(f) => Next::Bad(f),
         Frame::Of { mark, count, end } => {
             match judge_fields(book, index, named, depths, r, at, mark, count) {
                 Judged::Bad(f) => Next::Bad(f),
-                Judged::Good(deep) => settle_record(book, index, depths, r, at, mark, deep, end),
+                Judged::Good(deep) => {
+                    settle_record(book, index, depths, chains, r, at, mark, deep, end)
+                }
             }
         }
     }
@@ -353,8 +384,14 @@ fn judge_loose(book: &[u8], index: &[u16], named: &[u8], count: usize) -> ReadAn
 }
 
 // Record by record, up to 4,096 of them, and then LOOSE.
-fn read_records(book: &[u8], index: &mut [u16], named: &mut [u8], depths: &mut [u8]) -> ReadAnswer
-    requires { ⌜ Ready (now book) (now index) (now named) (now depths) 0 ⌝ ∗ ⌜ 0 < length (now book) ⌝ }
+fn read_records(
+    book: &[u8],
+    index: &mut [u16],
+    named: &mut [u8],
+    depths: &mut [u8],
+    chains: &mut [u16],
+) -> ReadAnswer
+    requires { ⌜ Ready (now book) (now index) (now named) (now depths) 0 ⌝ ∗ ⌜ 0 < length (now book) ⌝ ∗ ⌜ Chained (now book) (now index) (now chains) 0 ⌝ }
     ensures { λ r. ⌜ outcomeOf r (now (index .exit)) ≡ records 4096 (now (book .entry)) (state 0 0 (now (index .entry)) (now (named .entry)) (now (depths .entry))) ⌝ }
 {
     let mut at: usize = 0;
@@ -366,7 +403,7 @@ fn read_records(book: &[u8], index: &mut [u16], named: &mut [u8], depths: &mut [
                 place: 4096,
             });
         }
-        match read_record(book, index, named, depths, r, at) {
+        match read_record(book, index, named, depths, chains, r, at) {
             Next::At(end) => {
                 at = end;
             }
@@ -409,7 +446,8 @@ pub fn index_book(book: &[u8]) -> Indexed
     let mut index = [0u16; 4096];
     let mut named = [0u8; 4096];
     let mut depths = [0u8; 4096];
-    match read_records(book, &mut index, &mut named, &mut depths) {
+    let mut chains = [0u16; 5120];
+    match read_records(book, &mut index, &mut named, &mut depths, &mut chains) {
         ReadAnswer::Records(n) => Indexed {
             answer: ReadAnswer::Records(n),
             index: index,

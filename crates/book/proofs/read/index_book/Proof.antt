@@ -1,5 +1,6 @@
 -- `read::index_book` meets its contract: SIZE, then record by record.
 -- Assumes nothing.
+use Rattle.book.proofs.Chains.{chained-start}
 use Rattle.book.proofs.Course.{ready-start}
 use Rattle.book.proofs.Going.{sized-is, unsized-answers, records-answer, refusal-answers}
 use Rattle.book.specs.Read.{sized}
@@ -20,15 +21,16 @@ index-book-spec =
     (λ c. search needs)
     (λ c. search needs)
     (λ c. search needs)
+    (λ c. search needs)
     (λ c κs.
-    let e : sized (length (c .before .before .before .before .before .before .args .book .now)) ≡ true = sym (c .before .before .before .before .is-sized .ensures) ∙ not-false _ (c .before .before .before .if1 .left) in
+    let e : sized (length (c .before .before .before .before .before .before .before .args .book .now)) ≡ true = sym (c .before .before .before .before .before .is-sized .ensures) ∙ not-false _ (c .before .before .before .before .if1 .left) in
     let w = sized-is _ e in
-    (ready-start _ (w .1), w .0))
+    (ready-start _ (w .1), (w .0, chained-start _ _)))
     (λ c. search needs)
     (λ c. search needs)
     (λ c.
-    let e : sized (length (c .before .before .before .before .before .before .before .before .before .before .before .before .before .args .book .now)) ≡ true = sym (c .before .before .before .before .before .before .before .before .before .before .before .is-sized .ensures) ∙ not-false _ (c .before .before .before .before .before .before .before .before .before .before .if1 .left) in
-    records-answer _ e (c .before .before .before .before .before .before .read-records .result) (c .before .before .before .before .before .before .read-records .last .1 .0) (c .before .before .before .before .before .before .read-records .ensures) _ (c .before .n .given .1))
+    let e : sized (length (c .before .before .before .before .before .before .before .before .before .before .before .before .before .before .before .args .book .now)) ≡ true = sym (c .before .before .before .before .before .before .before .before .before .before .before .before .before .is-sized .ensures) ∙ not-false _ (c .before .before .before .before .before .before .before .before .before .before .before .before .if1 .left) in
+    records-answer _ e (c .before .before .before .before .before .before .before .read-records .result) (c .before .before .before .before .before .before .before .read-records .last .1 .0) (c .before .before .before .before .before .before .before .read-records .ensures) _ (c .before .n .given .1))
     (λ c.
-    let e : sized (length (c .before .before .before .before .before .before .before .before .before .before .before .before .before .args .book .now)) ≡ true = sym (c .before .before .before .before .before .before .before .before .before .before .before .is-sized .ensures) ∙ not-false _ (c .before .before .before .before .before .before .before .before .before .before .if1 .left) in
-    refusal-answers _ e (c .before .before .before .before .before .before .read-records .result) (c .before .before .before .before .before .before .read-records .last .1 .0) (c .before .before .before .before .before .before .read-records .ensures) _ (c .before .w .given .1)))
+    let e : sized (length (c .before .before .before .before .before .before .before .before .before .before .before .before .before .before .before .args .book .now)) ≡ true = sym (c .before .before .before .before .before .before .before .before .before .before .before .before .before .is-sized .ensures) ∙ not-false _ (c .before .before .before .before .before .before .before .before .before .before .before .before .if1 .left) in
+    refusal-answers _ e (c .before .before .before .before .before .before .before .read-records .result) (c .before .before .before .before .before .before .before .read-records .last .1 .0) (c .before .before .before .before .before .before .before .read-records .ensures) _ (c .before .w .given .1)))

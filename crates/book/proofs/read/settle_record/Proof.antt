@@ -1,5 +1,6 @@
 -- `read::settle_record` meets its contract: each way by its law.
 -- Assumes nothing.
+use Rattle.book.proofs.Chains.{joins}
 use Rattle.book.proofs.Endings.{settle-twice, settle-deep, settle-on}
 use Rattle.book.proofs.Frames.{mark-within}
 use borrow.Author.Needs.{needs}
@@ -14,14 +15,21 @@ settle-record-spec =
     (tie.spec
     (λ c κs. search needs)
     (λ c. search needs)
-    (λ c nm m. settle-twice _ _ _ _ (sym (c .before .is-repeated .ensures) ∙ c .if1 .taken))
     (λ c. search needs)
-    (λ c nm m. settle-deep _ _ _ _ (sym (c .before .before .is-repeated .ensures) ∙ c .before .if1 .left) (omega arith))
-    (λ c. omega (arith, c .before .before .before .before .before .before .before .pre .0 .size, c .before .before .before .before .before .before .before .pre .1 .1 .1 .framed .ends, mark-within (c .before .before .before .before .before .before .before .args .book .now) (c .before .before .before .before .before .before .before .args .at)))
+    (λ c. (λ nm m. settle-twice _ _ _ _ (sym (c .before .is-repeated .ensures) ∙ c .if1 .taken), tt))
     (λ c. search needs)
     (λ c. search needs)
+    (λ c. (λ nm m. settle-deep _ _ _ _ (sym (c .before .before .is-repeated .ensures) ∙ c .before .if1 .left) (omega arith), tt))
+    (λ c. let s = c .before .before .before .before .before .before .before .before .before in omega (arith, s .pre .0 .size, s .pre .1 .1 .1 .0 .framed .ends, mark-within (s .args .book .now) (s .args .at)))
     (λ c. search needs)
     (λ c. search needs)
     (λ c. search needs)
     (λ c. search needs)
-    (λ c nm m. settle-on _ _ _ _ (sym (c .before .before .is-repeated .ensures) ∙ c .before .if1 .left) (omega arith) _ (c .before .before .before .before .before .before .before .pre .1 .1 .1 .end)))
+    (λ c κs. search needs)
+    (λ c. search needs)
+    (λ c. search needs)
+    (λ c. search needs)
+    (λ c. (
+      λ nm m. settle-on _ _ _ _ (sym (c .before .before .before .before .before .before .is-repeated .ensures) ∙ c .before .before .before .before .before .if1 .left) (omega (arith, c .before .before .before .before .if2 .left)) _ (c .before .before .before .before .before .before .before .before .before .before .before .before .before .pre .1 .1 .1 .0 .end),
+      rw (c .before .before .join-chain .ensures) (joins _ _ _ _ _ (c .before .before .before .before .before .before .before .before .before .before .before .before .before .pre .0) (c .before .before .before .before .before .before .before .before .before .before .before .before .before .pre .1 .1 .1 .1) (c .before .before .before .before .before .before .before .before .before .before .before .before .before .pre .1 .1 .0)),
+    )))
