@@ -21,21 +21,20 @@ use Rattle.pattern.specs.Find.{find}
 use Rattle.pattern.specs.Seeks.{Absent, Found, Seeks}
 use Rattle.pattern.specs.declared.Sought.the-variants as answers
 use Rattle.pattern.proofs.Selectors.{wraps-more, seeks-missing, seeks-found, found-on}
-use Rattle.scope_bindings.specs.Scope.{reach, through, lookupFrom, lookup, fetch, binding, bound, newest}
-use Rattle.scope_bindings.specs.declared.Binding.{Binding}
+use Rattle.scope_bindings.specs.Scope.{reach, through, lookupFrom, lookup, fetch, bound, newest}
 use Rattle.scope_bindings.proofs.Scopes.{newest-length}
 
 -- a search for x in the first n bindings has passed those from `at` on, and stored nothing
-pub record Misses (b i : List ℕ) (bs : List Binding) (n x at : ℕ) (t t₁ : List ℕ) : Type 0 where
+pub record Misses (b i : List ℕ) (bs : List ℕ) (n x at : ℕ) (t t₁ : List ℕ) : Type 0 where
   pub low : at ≤ n
   pub table : t₁ ≡ t
   pub rest : lookup x (newest b i bs n) ≡ lookupFrom (n - at) x (newest b i bs at)
 
 -- none passed yet
-pub misses-none : (b i : List ℕ) (bs : List Binding) (n x : ℕ) (t : List ℕ) → Misses b i bs n x n t t
+pub misses-none : (b i : List ℕ) (bs : List ℕ) (n x : ℕ) (t : List ℕ) → Misses b i bs n x n t t
 misses-none b i bs n x t = let z : n - n ≡ 0 = omega arith in record { low = omega arith; table = refl; rest = rw z }
 
-module _ {b i : List ℕ} {bs : List Binding} {n x at : ℕ} {t t₁ : List ℕ} (m : Misses b i bs n x at t t₁) where
+module _ {b i : List ℕ} {bs : List ℕ} {n x at : ℕ} {t t₁ : List ℕ} (m : Misses b i bs n x at t t₁) where
   pub misses-kept : length t₁ ≡ length t
   misses-kept = ap length (m .table)
 
@@ -46,11 +45,11 @@ module _ {b i : List ℕ} {bs : List Binding} {n x at : ℕ} {t t₁ : List ℕ}
 
   -- the next binding to search
   module _ (u : ℕ) (o : 0 < at) (e : u ≡ at - 1) where
-    misses-here : lookup x (newest b i bs n) ≡ through (n - at) u (find x (bound b i (getD bs u (binding 0) .pattern))) (lookupFrom (suc (n - at)) x (newest b i bs u))
+    misses-here : lookup x (newest b i bs n) ≡ through (n - at) u (find x (bound b i (getD bs u 0))) (lookupFrom (suc (n - at)) x (newest b i bs u))
     unfolding newest lookupFrom
     misses-here = let z : at ≡ suc u = omega arith in m .rest ∙ ap (λ k. lookupFrom (n - at) x (newest b i bs k)) z ∙ rw (newest-length b i bs u)
 
-    pub misses-next : {t₂ : List ℕ} → find x (bound b i (getD bs u (binding 0) .pattern)) ≡ none → t₂ ≡ t₁ → Misses b i bs n x u t t₂
+    pub misses-next : {t₂ : List ℕ} → find x (bound b i (getD bs u 0)) ≡ none → t₂ ≡ t₁ → Misses b i bs n x u t t₂
     unfolding through
     misses-next f same = record {
       low = omega (arith, m .low);
@@ -58,11 +57,11 @@ module _ {b i : List ℕ} {bs : List Binding} {n x at : ℕ} {t t₁ : List ℕ}
       rest = let z : suc (n - at) ≡ n - u = omega (arith, m .low) in misses-here ∙ rw (f, z);
     }
 
-    pub misses-found : {r : ℕ} {t₂ t₃ : List ℕ} {pen q v : Pen} (newer : ℕ) → newer ≡ n - 1 - u → Found r t₁ pen (find x (bound b i (getD bs u (binding 0) .pattern))) q t₂ → Draws r t₂ q (wraps r (kinds TAKE DROP (reach newer u)) (q .root)) v t₃ → Seeks r t pen (lookup x (newest b i bs n)) (answers.Drawn v) t₃
+    pub misses-found : {r : ℕ} {t₂ t₃ : List ℕ} {pen q v : Pen} (newer : ℕ) → newer ≡ n - 1 - u → Found r t₁ pen (find x (bound b i (getD bs u 0))) q t₂ → Draws r t₂ q (wraps r (kinds TAKE DROP (reach newer u)) (q .root)) v t₃ → Seeks r t pen (lookup x (newest b i bs n)) (answers.Drawn v) t₃
     unfolding through
     misses-found {r = r} {t₂ = t₂} {pen = pen} {q = q} newer y f d =
         let z : n - at ≡ newer = omega (arith, m .low) in
-        let g : Found r t pen (find x (bound b i (getD bs u (binding 0) .pattern))) q t₂ = rw (m .table) at f in
+        let g : Found r t pen (find x (bound b i (getD bs u 0))) q t₂ = rw (m .table) at f in
         seeks-found (found-on (reach newer u) g (misses-here ∙ rw (g .is, z)) d)
 
 -- drops, one after another

@@ -15,7 +15,6 @@ use Rattle.book.specs.Tree.{Pat, ignore, patternOf, funOf}
 use Rattle.named.specs.Trace.{Run, stop, undefined}
 use Rattle.pattern.specs.Find.{find, paramsPattern, paramsOf}
 use Rattle.pattern.specs.Seeks.{selector}
-use Rattle.scope_bindings.specs.declared.Binding.{Binding}
 use Rattle.scope_bindings.specs.declared.ScopeBindings.{ScopeBindings}
 
 -- document 01, Scope: the path to a binding: one right for each newer binding, then one left unless the binding is the root, which none is older than
@@ -48,20 +47,21 @@ variable r x ps = fetch r (lookup x ps)
 abbrev pub IGNORED : ℕ
 IGNORED = 65535
 
-abbrev pub binding : ℕ → Binding
-binding x = record { pattern = x }
-
 -- what an entry stands for: a pattern, or a function's parameter tuple
 unfoldable pub bound : List ℕ → List ℕ → ℕ → Pat
 bound b i x = pick (eqb x IGNORED) ignore (pick (eqb (kind b i x) FUNCTION) (paramsPattern (paramsOf (funOf b i x))) (patternOf b i x))
 
 -- what the first n entries stand for, the newest first
-unfoldable pub newest : List ℕ → List ℕ → List Binding → ℕ → List Pat
+unfoldable pub newest : List ℕ → List ℕ → List ℕ → ℕ → List Pat
 newest b i bs zero = []
-newest b i bs (suc n) = bound b i (getD bs n (binding 0) .pattern) ∷ newest b i bs n
+newest b i bs (suc n) = bound b i (getD bs n 0) ∷ newest b i bs n
 
 abbrev pub scopeOf : List ℕ → List ℕ → ScopeBindings → List Pat
 scopeOf b i s = newest b i (s .bindings) (s .count)
+
+-- the scope of a row that is lent, of whose entries the first n are bindings
+abbrev pub lent : List ℕ → ℕ → ScopeBindings
+lent bs n = record { bindings = bs; count = n }
 
 -- what may be bound
 pub data Binds (b i : List ℕ) (x : ℕ) : Type 0 where
@@ -74,13 +74,13 @@ pub record ScopeStands (b i : List ℕ) (s : ScopeBindings) : Type 0 where
   pub some : 0 < s .count
   pub most : s .count ≤ 256
   pub row : length (s .bindings) ≡ 256
-  pub each : (j : ℕ) → j < s .count → Binds b i (getD (s .bindings) j (binding 0) .pattern)
+  pub each : (j : ℕ) → j < s .count → Binds b i (getD (s .bindings) j 0)
 
 -- a scope of one binding, the root x; a scope s with one more, x
 pub record Roots (x : ℕ) (s : ScopeBindings) : Type 0 where
-  pub row : s .bindings ≡ set (replicate 256 (binding IGNORED)) 0 (binding x)
+  pub row : s .bindings ≡ set (replicate 256 IGNORED) 0 x
   pub count : s .count ≡ 1
 
 pub record Inserts (s : ScopeBindings) (x : ℕ) (s′ : ScopeBindings) : Type 0 where
-  pub row : s′ .bindings ≡ set (s .bindings) (s .count) (binding x)
+  pub row : s′ .bindings ≡ set (s .bindings) (s .count) x
   pub count : s′ .count ≡ s .count + 1

@@ -1,11 +1,12 @@
 // The bindings of a scope: a fixed row, searched from the newest.
+ghost use mathlib.Core.Path.{_≡_};
 ghost use Prim.Native.Nat.{_<_};
-ghost use lib.ListN.{replicate};
+ghost use lib.ListN.{length, replicate};
 ghost use Rattle.named.specs.Combinators.{TAKE, DROP, kinds, wraps};
 ghost use Rattle.named.specs.Draws.{Draws, Done};
 ghost use Rattle.pattern.specs.Find.{find};
 ghost use Rattle.pattern.specs.Seeks.{Memo, Searches};
-ghost use Rattle.scope_bindings.specs.Scope.{reach, lookup, variable, bound, scopeOf, Binds, ScopeStands, Roots, Inserts};
+ghost use Rattle.scope_bindings.specs.Scope.{reach, lookup, variable, bound, scopeOf, lent, Binds, ScopeStands, Roots, Inserts};
 use book::fault::Fault;
 use book::fault::Refusal;
 use book::format::FN;
@@ -24,14 +25,10 @@ use pattern::get_param;
 // An entry for the ignore pattern, which no record need stand for.
 pub const IGNORED: u16 = 65535;
 
-// A pattern's record, or a function's for its parameter tuple, or IGNORED.
-pub struct Binding {
-    pub pattern: u16,
-}
-
-// The bindings in the order in which they were made: the first is the root, the input itself.
+// The bindings in the order in which they were made: the first is the root, the input itself. A binding is a pattern's record, or a
+// function's for its parameter tuple, or IGNORED.
 pub struct ScopeBindings {
-    pub bindings: [Binding; 256],
+    pub bindings: [u16; 256],
     pub count: usize,
 }
 
@@ -39,8 +36,8 @@ pub struct ScopeBindings {
 pub fn from_root(root: u16) -> ScopeBindings
     ensures { λ s. ⌜ Roots root s ⌝ }
 {
-    let mut bindings = [Binding { pattern: IGNORED }; 256];
-    bindings[0] = Binding { pattern: root };
+    let mut bindings = [IGNORED; 256];
+    bindings[0] = root;
     ScopeBindings {
         bindings: bindings,
         count: 1,
@@ -54,27 +51,55 @@ pub fn insert(scope: ScopeBindings, pattern: u16) -> ScopeBindings
 {
     let mut wider = scope;
     let at = wider.count;
-    wider.bindings[at] = Binding { pattern: pattern };
+    wider.bindings[at] = pattern;
     wider.count = at + 1;
     wider
+}
+
+// A scope that is lent, as a value to bind more in. Only who binds copies; all others lend on what they were lent.
+pub fn copied(bindings: &[u16], count: usize) -> ScopeBindings
+    requires { ⌜ length (now bindings) ≡ 256 ⌝ }
+    ensures { λ s. ⌜ s ≡ lent (now (bindings .entry)) count ⌝ }
+{
+    let mut row = [IGNORED; 256];
+    let mut k: usize = 0;
+    while k < 256 {
+        row[k] = bindings[k];
+        k += 1;
+    }
+    ScopeBindings {
+        bindings: row,
+        count: count,
+    }
 }
 
 // The selector of a name in a scope, or a refusal where the name is not in scope.
 pub fn get(
     book: &[u8],
     index: &[u16],
-    scope: ScopeBindings,
+    bindings: &[u16],
+    count: usize,
     name: u16,
     nodes: &mut [u8],
     place: u16,
     next: u16,
 ) -> Stored
-    requires { ⌜ ScopeStands (now book) (now index) scope ⌝ }
-    ensures { λ s. ⌜ Done (now (nodes .entry)) next (variable place name (scopeOf (now (book .entry)) (now (index .entry)) scope)) s (now (nodes .exit)) ⌝ }
+    requires { ⌜ ScopeStands (now book) (now index) (lent (now bindings) count) ⌝ }
+    ensures { λ s. ⌜ Done (now (nodes .entry)) next (variable place name (scopeOf (now (book .entry)) (now (index .entry)) (lent (now (bindings .entry)) count))) s (now (nodes .exit)) ⌝ }
 {
     let mut missing = [0u8; 4096];
     let pen = pen_at(next);
-    match get_newest(book, index, scope, name, &mut missing, nodes, place, pen) {
+    match get_newest(
+        book,
+        index,
+        bindings,
+        count,
+        name,
+        &mut missing,
+        nodes,
+        place,
+        pen,
+    ) {
         Sought::Drawn(found) => answer_of(place, found),
         Sought::Missing => Stored::Refused(Refusal {
             fault: Fault::Undefined,
@@ -87,21 +112,21 @@ pub fn get(
 fn get_newest(
     book: &[u8],
     index: &[u16],
-    scope: ScopeBindings,
+    bindings: &[u16],
+    count: usize,
     name: u16,
     missing: &mut [u8],
     nodes: &mut [u8],
     place: u16,
     pen: Pen,
 ) -> Sought
-    requires { ⌜ ScopeStands (now book) (now index) scope ⌝ ∗ ⌜ Memo (now book) (now index) name (now missing) ⌝ }
-    ensures { λ s. ⌜ Searches (now (book .entry)) (now (index .entry)) name (lookup name (scopeOf (now (book .entry)) (now (index .entry)) scope)) place (now (nodes .entry)) pen s (now (nodes .exit)) (now (missing .exit)) ⌝ }
+    requires { ⌜ ScopeStands (now book) (now index) (lent (now bindings) count) ⌝ ∗ ⌜ Memo (now book) (now index) name (now missing) ⌝ }
+    ensures { λ s. ⌜ Searches (now (book .entry)) (now (index .entry)) name (lookup name (scopeOf (now (book .entry)) (now (index .entry)) (lent (now (bindings .entry)) count))) place (now (nodes .entry)) pen s (now (nodes .exit)) (now (missing .exit)) ⌝ }
 {
-    let count = scope.count;
     let mut at = count;
     while 0 < at {
         at -= 1;
-        let pattern = scope.bindings[at].pattern;
+        let pattern = bindings[at];
         match get_bound(book, index, pattern, name, missing, nodes, place, pen) {
             Sought::Drawn(inner) => {
                 return Sought::Drawn(reach(nodes, place, inner, count - 1 - at, at));

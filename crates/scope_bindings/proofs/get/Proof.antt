@@ -14,7 +14,7 @@ get-spec =
     (tie.spec
     (λ c κs. search needs)
     (λ c. search needs)
-    (λ c κs. (c .before .before .before .before .before .before .pre, memo-none _ _ _ _ refl))
+    (λ c κs. (c .before .before .before .before .before .before .before .pre, memo-none _ _ _ _ refl))
     (λ c. search needs)
     (λ c κs. search needs)
     (λ c. search needs)
