@@ -13,7 +13,7 @@ ghost use Rattle.book.specs.Stands.{Stands};
 ghost use Rattle.book.specs.Tree.{exprOf, patternOf, funOf};
 ghost use Rattle.named.specs.Draws.{Done, Fills};
 ghost use Rattle.recipes.specs.Calls.{paired};
-ghost use Rattle.scope_bindings.specs.Scope.{variable, scopeOf, ScopeStands};
+ghost use Rattle.scope_bindings.specs.Scope.{variable, scopeOf, lent, ScopeStands};
 ghost use Rattle.parts.specs.Parts.{Marked, Spanned, rowMarks, isCall};
 ghost use Rattle.compile.specs.Lower.{bindingAt, binding, lower, statements, body};
 ghost use Rattle.compile.specs.Cycle.{elementRun, elementsRun, rowRun, bodyRun, completeRun, callRun, secondRun, beginRun, stmtsOf, Enters, InSpan};
@@ -52,6 +52,7 @@ use parts::view::is_functional;
 use parts::view::span_of;
 use recipes::calls::paired;
 use scope_bindings::ScopeBindings;
+use scope_bindings::copied;
 use scope_bindings::from_root;
 use scope_bindings::get;
 use scope_bindings::insert;
@@ -62,25 +63,26 @@ pub fn expression(
     index: &[u16],
     symbols: bool,
     r: u16,
-    scope: ScopeBindings,
+    bindings: &[u16],
+    count: usize,
     nodes: &mut [u8],
     next: u16,
 ) -> Stored
-    requires { ⌜ Stands (now book) (now index) r EXPRESSION ⌝ ∗ ⌜ ScopeStands (now book) (now index) scope ⌝ }
-    ensures { λ s. ⌜ Done (now (nodes .entry)) next (lower symbols (exprOf (now (book .entry)) (now (index .entry)) r) (scopeOf (now (book .entry)) (now (index .entry)) scope)) s (now (nodes .exit)) ⌝ }
+    requires { ⌜ Stands (now book) (now index) r EXPRESSION ⌝ ∗ ⌜ ScopeStands (now book) (now index) (lent (now bindings) count) ⌝ }
+    ensures { λ s. ⌜ Done (now (nodes .entry)) next (lower symbols (exprOf (now (book .entry)) (now (index .entry)) r) (scopeOf (now (book .entry)) (now (index .entry)) (lent (now (bindings .entry)) count))) s (now (nodes .exit)) ⌝ }
 {
     let m = mark_at(book, index, r);
     match m {
         EC => constant(book, index, r, nodes, next),
         EW => witness(book, index, r, nodes, next),
-        EV => variable(book, index, r, scope, nodes, next),
-        EB => block(book, index, symbols, r, scope, nodes, next),
-        EM => two_arms(book, index, symbols, r, scope, nodes, next),
+        EV => variable(book, index, r, bindings, count, nodes, next),
+        EB => block(book, index, symbols, r, bindings, count, nodes, next),
+        EM => two_arms(book, index, symbols, r, bindings, count, nodes, next),
         CK => {
             let e = field_at(book, index, r, 1);
-            expression(book, index, symbols, e, scope, nodes, next)
+            expression(book, index, symbols, e, bindings, count, nodes, next)
         }
-        _ => from_row(book, index, symbols, r, m, scope, nodes, next),
+        _ => from_row(book, index, symbols, r, m, bindings, count, nodes, next),
     }
 }
 
@@ -89,15 +91,16 @@ fn variable(
     book: &[u8],
     index: &[u16],
     r: u16,
-    scope: ScopeBindings,
+    bindings: &[u16],
+    count: usize,
     nodes: &mut [u8],
     next: u16,
 ) -> Stored
-    requires { ⌜ Marked (now book) (now index) r EV ⌝ ∗ ⌜ ScopeStands (now book) (now index) scope ⌝ }
-    ensures { λ s. ⌜ Done (now (nodes .entry)) next (variable r (field (now (book .entry)) (now (index .entry)) r 1) (scopeOf (now (book .entry)) (now (index .entry)) scope)) s (now (nodes .exit)) ⌝ }
+    requires { ⌜ Marked (now book) (now index) r EV ⌝ ∗ ⌜ ScopeStands (now book) (now index) (lent (now bindings) count) ⌝ }
+    ensures { λ s. ⌜ Done (now (nodes .entry)) next (variable r (field (now (book .entry)) (now (index .entry)) r 1) (scopeOf (now (book .entry)) (now (index .entry)) (lent (now (bindings .entry)) count))) s (now (nodes .exit)) ⌝ }
 {
     let name = field_at(book, index, r, 1);
-    get(book, index, scope, name, nodes, r, next)
+    get(book, index, bindings, count, name, nodes, r, next)
 }
 
 // An expression that has a row of elements: the row, and then what its mark makes of it.
@@ -107,16 +110,17 @@ fn from_row(
     symbols: bool,
     r: u16,
     m: u8,
-    scope: ScopeBindings,
+    bindings: &[u16],
+    count: usize,
     nodes: &mut [u8],
     next: u16,
 ) -> Stored
-    requires { ⌜ Marked (now book) (now index) r m ⌝ ∗ ⌜ ScopeStands (now book) (now index) scope ⌝ ∗ ⌜ T (among rowMarks m) ⌝ }
-    ensures { λ s. ⌜ Done (now (nodes .entry)) next (lower symbols (exprOf (now (book .entry)) (now (index .entry)) r) (scopeOf (now (book .entry)) (now (index .entry)) scope)) s (now (nodes .exit)) ⌝ }
+    requires { ⌜ Marked (now book) (now index) r m ⌝ ∗ ⌜ ScopeStands (now book) (now index) (lent (now bindings) count) ⌝ ∗ ⌜ T (among rowMarks m) ⌝ }
+    ensures { λ s. ⌜ Done (now (nodes .entry)) next (lower symbols (exprOf (now (book .entry)) (now (index .entry)) r) (scopeOf (now (book .entry)) (now (index .entry)) (lent (now (bindings .entry)) count))) s (now (nodes .exit)) ⌝ }
 {
-    match row(book, index, symbols, r, m, scope, nodes, next) {
+    match row(book, index, symbols, r, m, bindings, count, nodes, next) {
         Stored::Node { root: a, next: n } => {
-            complete(book, index, symbols, r, m, a, scope, nodes, n)
+            complete(book, index, symbols, r, m, a, bindings, count, nodes, n)
         }
         Stored::Refused(w) => Stored::Refused(w),
     }
@@ -129,12 +133,13 @@ fn row(
     symbols: bool,
     r: u16,
     m: u8,
-    scope: ScopeBindings,
+    bindings: &[u16],
+    count: usize,
     nodes: &mut [u8],
     next: u16,
 ) -> Stored
-    requires { ⌜ Marked (now book) (now index) r m ⌝ ∗ ⌜ ScopeStands (now book) (now index) scope ⌝ ∗ ⌜ T (among rowMarks m) ⌝ }
-    ensures { λ s. ⌜ Done (now (nodes .entry)) next (rowRun symbols (now (book .entry)) (now (index .entry)) r m (scopeOf (now (book .entry)) (now (index .entry)) scope)) s (now (nodes .exit)) ⌝ }
+    requires { ⌜ Marked (now book) (now index) r m ⌝ ∗ ⌜ ScopeStands (now book) (now index) (lent (now bindings) count) ⌝ ∗ ⌜ T (among rowMarks m) ⌝ }
+    ensures { λ s. ⌜ Done (now (nodes .entry)) next (rowRun symbols (now (book .entry)) (now (index .entry)) r m (scopeOf (now (book .entry)) (now (index .entry)) (lent (now (bindings .entry)) count))) s (now (nodes .exit)) ⌝ }
 {
     let span = span_of(book, index, r, m);
     let mut roots = [0u16; 256];
@@ -145,7 +150,8 @@ fn row(
         r,
         m,
         span,
-        scope,
+        bindings,
+        count,
         &mut roots,
         nodes,
         next,
@@ -163,20 +169,21 @@ fn elements(
     r: u16,
     m: u8,
     span: Span,
-    scope: ScopeBindings,
+    bindings: &[u16],
+    live: usize,
     roots: &mut [u16],
     nodes: &mut [u8],
     next: u16,
 ) -> Filled
-    requires { ⌜ Marked (now book) (now index) r m ⌝ ∗ ⌜ ScopeStands (now book) (now index) scope ⌝ ∗ ⌜ T (among rowMarks m) ⌝ ∗ ⌜ Spanned (now book) (now index) r m span ⌝ ∗ ⌜ 256 ≤ length (now roots) ⌝ }
-    ensures { λ s. ⌜ (length (now (roots .exit)) ≡ length (now (roots .entry))) × (Fills (now (nodes .entry)) next (elementsRun symbols (now (book .entry)) (now (index .entry)) r m (scopeOf (now (book .entry)) (now (index .entry)) scope) (span .stride) (span .from) (span .count)) s (take (span .count) (now (roots .exit))) (now (nodes .exit))) ⌝ }
+    requires { ⌜ Marked (now book) (now index) r m ⌝ ∗ ⌜ ScopeStands (now book) (now index) (lent (now bindings) live) ⌝ ∗ ⌜ T (among rowMarks m) ⌝ ∗ ⌜ Spanned (now book) (now index) r m span ⌝ ∗ ⌜ 256 ≤ length (now roots) ⌝ }
+    ensures { λ s. ⌜ (length (now (roots .exit)) ≡ length (now (roots .entry))) × (Fills (now (nodes .entry)) next (elementsRun symbols (now (book .entry)) (now (index .entry)) r m (scopeOf (now (book .entry)) (now (index .entry)) (lent (now (bindings .entry)) live)) (span .stride) (span .from) (span .count)) s (take (span .count) (now (roots .exit))) (now (nodes .exit))) ⌝ }
 {
     let count = span.count;
     let mut at = next;
     let mut k: usize = 0;
     while k < count {
         let j = span.from + span.stride * k;
-        match element(book, index, symbols, r, m, j, scope, nodes, at) {
+        match element(book, index, symbols, r, m, j, bindings, live, nodes, at) {
             Stored::Node { root: a, next: n } => {
                 roots[k] = a;
                 at = n;
@@ -198,12 +205,13 @@ fn element(
     r: u16,
     m: u8,
     j: usize,
-    scope: ScopeBindings,
+    bindings: &[u16],
+    count: usize,
     nodes: &mut [u8],
     next: u16,
 ) -> Stored
-    requires { ⌜ Marked (now book) (now index) r m ⌝ ∗ ⌜ ScopeStands (now book) (now index) scope ⌝ ∗ ⌜ InSpan (now book) (now index) r m j ⌝ }
-    ensures { λ s. ⌜ Done (now (nodes .entry)) next (elementRun symbols (now (book .entry)) (now (index .entry)) r m (scopeOf (now (book .entry)) (now (index .entry)) scope) j) s (now (nodes .exit)) ⌝ }
+    requires { ⌜ Marked (now book) (now index) r m ⌝ ∗ ⌜ ScopeStands (now book) (now index) (lent (now bindings) count) ⌝ ∗ ⌜ InSpan (now book) (now index) r m j ⌝ }
+    ensures { λ s. ⌜ Done (now (nodes .entry)) next (elementRun symbols (now (book .entry)) (now (index .entry)) r m (scopeOf (now (book .entry)) (now (index .entry)) (lent (now (bindings .entry)) count)) j) s (now (nodes .exit)) ⌝ }
 {
     if m == EH {
         let a = arm_at(book, index, r, j - 1);
@@ -214,13 +222,14 @@ fn element(
             r,
             a.pattern,
             a.body,
-            scope,
+            bindings,
+            count,
             nodes,
             next,
         );
     }
     let e = field_at(book, index, r, j);
-    expression(book, index, symbols, e, scope, nodes, next)
+    expression(book, index, symbols, e, bindings, count, nodes, next)
 }
 
 // An arm of a match: its expression, where its pattern is bound.
@@ -231,21 +240,31 @@ fn arm(
     r: u16,
     pattern: u16,
     e: u16,
-    scope: ScopeBindings,
+    bindings: &[u16],
+    count: usize,
     nodes: &mut [u8],
     next: u16,
 ) -> Stored
-    requires { ⌜ Stands (now book) (now index) pattern PATTERN ⌝ ∗ ⌜ Stands (now book) (now index) e EXPRESSION ⌝ ∗ ⌜ ScopeStands (now book) (now index) scope ⌝ }
-    ensures { λ s. ⌜ Done (now (nodes .entry)) next (binding r (scopeOf (now (book .entry)) (now (index .entry)) scope) (lower symbols (exprOf (now (book .entry)) (now (index .entry)) e) (patternOf (now (book .entry)) (now (index .entry)) pattern ∷ (scopeOf (now (book .entry)) (now (index .entry)) scope)))) s (now (nodes .exit)) ⌝ }
+    requires { ⌜ Stands (now book) (now index) pattern PATTERN ⌝ ∗ ⌜ Stands (now book) (now index) e EXPRESSION ⌝ ∗ ⌜ ScopeStands (now book) (now index) (lent (now bindings) count) ⌝ }
+    ensures { λ s. ⌜ Done (now (nodes .entry)) next (binding r (scopeOf (now (book .entry)) (now (index .entry)) (lent (now (bindings .entry)) count)) (lower symbols (exprOf (now (book .entry)) (now (index .entry)) e) (patternOf (now (book .entry)) (now (index .entry)) pattern ∷ (scopeOf (now (book .entry)) (now (index .entry)) (lent (now (bindings .entry)) count))))) s (now (nodes .exit)) ⌝ }
 {
-    if scope.count >= 256 {
+    if count >= 256 {
         return Stored::Refused(Refusal {
             fault: Fault::Bindings,
             place: r,
         });
     }
-    let inner = insert(scope, pattern);
-    expression(book, index, symbols, e, inner, nodes, next)
+    let inner = insert(copied(bindings, count), pattern);
+    expression(
+        book,
+        index,
+        symbols,
+        e,
+        &inner.bindings,
+        inner.count,
+        nodes,
+        next,
+    )
 }
 
 // What an expression makes of its row's node: an enum's match, a call, or a wrap.
@@ -256,15 +275,16 @@ fn complete(
     r: u16,
     m: u8,
     inner: u16,
-    scope: ScopeBindings,
+    bindings: &[u16],
+    count: usize,
     nodes: &mut [u8],
     next: u16,
 ) -> Stored
-    requires { ⌜ Marked (now book) (now index) r m ⌝ ∗ ⌜ ScopeStands (now book) (now index) scope ⌝ }
-    ensures { λ s. ⌜ Done (now (nodes .entry)) next (completeRun symbols (now (book .entry)) (now (index .entry)) r m (scopeOf (now (book .entry)) (now (index .entry)) scope) inner) s (now (nodes .exit)) ⌝ }
+    requires { ⌜ Marked (now book) (now index) r m ⌝ ∗ ⌜ ScopeStands (now book) (now index) (lent (now bindings) count) ⌝ }
+    ensures { λ s. ⌜ Done (now (nodes .entry)) next (completeRun symbols (now (book .entry)) (now (index .entry)) r m (scopeOf (now (book .entry)) (now (index .entry)) (lent (now (bindings .entry)) count)) inner) s (now (nodes .exit)) ⌝ }
 {
     if m == EH {
-        return choose(book, index, symbols, r, inner, scope, nodes, next);
+        return choose(book, index, symbols, r, inner, bindings, count, nodes, next);
     }
     if is_call(m) {
         return call(book, index, symbols, r, m, inner, nodes, next);
@@ -279,15 +299,16 @@ fn choose(
     symbols: bool,
     r: u16,
     cases: u16,
-    scope: ScopeBindings,
+    bindings: &[u16],
+    count: usize,
     nodes: &mut [u8],
     next: u16,
 ) -> Stored
-    requires { ⌜ Marked (now book) (now index) r EH ⌝ ∗ ⌜ ScopeStands (now book) (now index) scope ⌝ }
-    ensures { λ s. ⌜ Done (now (nodes .entry)) next (completeRun symbols (now (book .entry)) (now (index .entry)) r EH (scopeOf (now (book .entry)) (now (index .entry)) scope) cases) s (now (nodes .exit)) ⌝ }
+    requires { ⌜ Marked (now book) (now index) r EH ⌝ ∗ ⌜ ScopeStands (now book) (now index) (lent (now bindings) count) ⌝ }
+    ensures { λ s. ⌜ Done (now (nodes .entry)) next (completeRun symbols (now (book .entry)) (now (index .entry)) r EH (scopeOf (now (book .entry)) (now (index .entry)) (lent (now (bindings .entry)) count)) cases) s (now (nodes .exit)) ⌝ }
 {
     let e = field_at(book, index, r, 1);
-    match expression(book, index, symbols, e, scope, nodes, next) {
+    match expression(book, index, symbols, e, bindings, count, nodes, next) {
         Stored::Node { root: s, next: n } => choose_arm(r, s, cases, nodes, n),
         Stored::Refused(w) => Stored::Refused(w),
     }
@@ -352,7 +373,17 @@ fn function(
 {
     let n = field_at(book, index, f, 1) as usize;
     let e = field_at(book, index, f, 2 + 2 * n);
-    expression(book, index, symbols, e, from_root(f), nodes, next)
+    let scope = from_root(f);
+    expression(
+        book,
+        index,
+        symbols,
+        e,
+        &scope.bindings,
+        scope.count,
+        nodes,
+        next,
+    )
 }
 
 // A match of two arms: both arms, and then the scrutinee and the case.
@@ -361,12 +392,13 @@ fn two_arms(
     index: &[u16],
     symbols: bool,
     r: u16,
-    scope: ScopeBindings,
+    bindings: &[u16],
+    count: usize,
     nodes: &mut [u8],
     next: u16,
 ) -> Stored
-    requires { ⌜ Marked (now book) (now index) r EM ⌝ ∗ ⌜ ScopeStands (now book) (now index) scope ⌝ }
-    ensures { λ s. ⌜ Done (now (nodes .entry)) next (lower symbols (exprOf (now (book .entry)) (now (index .entry)) r) (scopeOf (now (book .entry)) (now (index .entry)) scope)) s (now (nodes .exit)) ⌝ }
+    requires { ⌜ Marked (now book) (now index) r EM ⌝ ∗ ⌜ ScopeStands (now book) (now index) (lent (now bindings) count) ⌝ }
+    ensures { λ s. ⌜ Done (now (nodes .entry)) next (lower symbols (exprOf (now (book .entry)) (now (index .entry)) r) (scopeOf (now (book .entry)) (now (index .entry)) (lent (now (bindings .entry)) count))) s (now (nodes .exit)) ⌝ }
 {
     let left = arm_at(book, index, r, 2);
     match arm(
@@ -376,12 +408,13 @@ fn two_arms(
         r,
         left.pattern,
         left.body,
-        scope,
+        bindings,
+        count,
         nodes,
         next,
     ) {
         Stored::Node { root: a, next: n } => {
-            second_arm(book, index, symbols, r, a, scope, nodes, n)
+            second_arm(book, index, symbols, r, a, bindings, count, nodes, n)
         }
         Stored::Refused(w) => Stored::Refused(w),
     }
@@ -394,12 +427,13 @@ fn second_arm(
     symbols: bool,
     r: u16,
     left: u16,
-    scope: ScopeBindings,
+    bindings: &[u16],
+    count: usize,
     nodes: &mut [u8],
     next: u16,
 ) -> Stored
-    requires { ⌜ Marked (now book) (now index) r EM ⌝ ∗ ⌜ ScopeStands (now book) (now index) scope ⌝ }
-    ensures { λ s. ⌜ Done (now (nodes .entry)) next (secondRun symbols (now (book .entry)) (now (index .entry)) r (scopeOf (now (book .entry)) (now (index .entry)) scope) left) s (now (nodes .exit)) ⌝ }
+    requires { ⌜ Marked (now book) (now index) r EM ⌝ ∗ ⌜ ScopeStands (now book) (now index) (lent (now bindings) count) ⌝ }
+    ensures { λ s. ⌜ Done (now (nodes .entry)) next (secondRun symbols (now (book .entry)) (now (index .entry)) r (scopeOf (now (book .entry)) (now (index .entry)) (lent (now (bindings .entry)) count)) left) s (now (nodes .exit)) ⌝ }
 {
     let right = arm_at(book, index, r, 4);
     let e = field_at(book, index, r, 1);
@@ -410,12 +444,13 @@ fn second_arm(
         r,
         right.pattern,
         right.body,
-        scope,
+        bindings,
+        count,
         nodes,
         next,
     ) {
         Stored::Node { root: b, next: n } => {
-            match expression(book, index, symbols, e, scope, nodes, n) {
+            match expression(book, index, symbols, e, bindings, count, nodes, n) {
                 Stored::Node { root: s, next: u } => match_arms(r, s, left, b, nodes, u),
                 Stored::Refused(w) => Stored::Refused(w),
             }
@@ -430,25 +465,26 @@ fn block(
     index: &[u16],
     symbols: bool,
     r: u16,
-    scope: ScopeBindings,
+    bindings: &[u16],
+    live: usize,
     nodes: &mut [u8],
     next: u16,
 ) -> Stored
-    requires { ⌜ Marked (now book) (now index) r EB ⌝ ∗ ⌜ ScopeStands (now book) (now index) scope ⌝ }
-    ensures { λ s. ⌜ Done (now (nodes .entry)) next (lower symbols (exprOf (now (book .entry)) (now (index .entry)) r) (scopeOf (now (book .entry)) (now (index .entry)) scope)) s (now (nodes .exit)) ⌝ }
+    requires { ⌜ Marked (now book) (now index) r EB ⌝ ∗ ⌜ ScopeStands (now book) (now index) (lent (now bindings) live) ⌝ }
+    ensures { λ s. ⌜ Done (now (nodes .entry)) next (lower symbols (exprOf (now (book .entry)) (now (index .entry)) r) (scopeOf (now (book .entry)) (now (index .entry)) (lent (now (bindings .entry)) live))) s (now (nodes .exit)) ⌝ }
 {
     let count = field_at(book, index, r, 1) as usize;
     let mut begun = [0u16; 256];
-    let mut inner = scope;
+    let mut own = copied(bindings, live);
     let mut at = next;
     let mut k: usize = 0;
     while k < count {
         let s = field_at(book, index, r, 2 + k);
-        match begin(book, index, symbols, s, inner, nodes, at) {
+        match begin(book, index, symbols, s, &own.bindings, own.count, nodes, at) {
             Stored::Node { root: a, next: n } => {
                 begun[k] = a;
                 at = n;
-                inner = enter(book, index, s, inner);
+                own = enter(book, index, s, own);
             }
             Stored::Refused(w) => {
                 return Stored::Refused(w);
@@ -456,7 +492,7 @@ fn block(
         }
         k += 1;
     }
-    match end(book, index, symbols, r, count, inner, nodes, at) {
+    match end(book, index, symbols, r, &own.bindings, own.count, nodes, at) {
         Stored::Node { root: a, next: n } => {
             close_all(book, index, r, &begun, count, a, nodes, n)
         }
@@ -464,25 +500,26 @@ fn block(
     }
 }
 
-// The end of a block of n statements: an expression, or unit where there is none.
+// The end of a block: an expression, or unit where there is none.
 fn end(
     book: &[u8],
     index: &[u16],
     symbols: bool,
     r: u16,
-    n: usize,
-    scope: ScopeBindings,
+    bindings: &[u16],
+    live: usize,
     nodes: &mut [u8],
     next: u16,
 ) -> Stored
-    requires { ⌜ Marked (now book) (now index) r EB ⌝ ∗ ⌜ ScopeStands (now book) (now index) scope ⌝ ∗ ⌜ n ≡ field (now book) (now index) r 1 ⌝ }
-    ensures { λ s. ⌜ Done (now (nodes .entry)) next (statements symbols r (stmtsOf (now (book .entry)) (now (index .entry)) r (2 + n) 0) (scopeOf (now (book .entry)) (now (index .entry)) scope)) s (now (nodes .exit)) ⌝ }
+    requires { ⌜ Marked (now book) (now index) r EB ⌝ ∗ ⌜ ScopeStands (now book) (now index) (lent (now bindings) live) ⌝ }
+    ensures { λ s. ⌜ Done (now (nodes .entry)) next (statements symbols r (stmtsOf (now (book .entry)) (now (index .entry)) r (2 + field (now (book .entry)) (now (index .entry)) r 1) 0) (scopeOf (now (book .entry)) (now (index .entry)) (lent (now (bindings .entry)) live))) s (now (nodes .exit)) ⌝ }
 {
+    let n = field_at(book, index, r, 1) as usize;
     let e = field_at(book, index, r, 2 + n);
     if e == 65535 {
         return answer_of(r, put(nodes, r, pen_at(next), UNIT, 0, 0));
     }
-    expression(book, index, symbols, e, scope, nodes, next)
+    expression(book, index, symbols, e, bindings, live, nodes, next)
 }
 
 // A statement, up to the rest of its block.
@@ -491,20 +528,21 @@ fn begin(
     index: &[u16],
     symbols: bool,
     s: u16,
-    scope: ScopeBindings,
+    bindings: &[u16],
+    count: usize,
     nodes: &mut [u8],
     next: u16,
 ) -> Stored
-    requires { ⌜ Stands (now book) (now index) s STATEMENT ⌝ ∗ ⌜ ScopeStands (now book) (now index) scope ⌝ }
-    ensures { λ q. ⌜ Done (now (nodes .entry)) next (beginRun (now (book .entry)) (now (index .entry)) s symbols (scopeOf (now (book .entry)) (now (index .entry)) scope)) q (now (nodes .exit)) ⌝ }
+    requires { ⌜ Stands (now book) (now index) s STATEMENT ⌝ ∗ ⌜ ScopeStands (now book) (now index) (lent (now bindings) count) ⌝ }
+    ensures { λ q. ⌜ Done (now (nodes .entry)) next (beginRun (now (book .entry)) (now (index .entry)) s symbols (scopeOf (now (book .entry)) (now (index .entry)) (lent (now (bindings .entry)) count))) q (now (nodes .exit)) ⌝ }
 {
     if mark_at(book, index, s) != SA {
         let e = field_at(book, index, s, 0);
-        return expression(book, index, symbols, e, scope, nodes, next);
+        return expression(book, index, symbols, e, bindings, count, nodes, next);
     }
     let e = field_at(book, index, s, 1);
-    match expression(book, index, symbols, e, scope, nodes, next) {
-        Stored::Node { root: a, next: n } => bind_value(s, a, scope.count, nodes, n),
+    match expression(book, index, symbols, e, bindings, count, nodes, next) {
+        Stored::Node { root: a, next: n } => bind_value(s, a, count, nodes, n),
         Stored::Refused(w) => Stored::Refused(w),
     }
 }

@@ -40,7 +40,17 @@ fn lower_root(book: &[u8], index: &[u16], symbols: bool, r: u16, nodes: &mut [u8
     requires { ⌜ Stands (now book) (now index) r EXPRESSION ⌝ ∗ ⌜ now nodes ≡ replicate (length (now nodes)) 0 ⌝ }
     ensures { λ a. ⌜ Lowered (cut (room (length (now (nodes .entry)))) (traceOf symbols (now (book .entry)) (now (index .entry)) r)) (length (now (nodes .entry))) a (now (nodes .exit)) ⌝ }
 {
-    match expression(book, index, symbols, r, from_root(IGNORED), nodes, 0) {
+    let scope = from_root(IGNORED);
+    match expression(
+        book,
+        index,
+        symbols,
+        r,
+        &scope.bindings,
+        scope.count,
+        nodes,
+        0,
+    ) {
         Stored::Node { root: _, next: n } => LowerAnswer::Nodes(n),
         Stored::Refused(w) => {
             clear(nodes);

@@ -10,11 +10,11 @@ lower-root-spec =
     tie.close
     (tie.spec
     (λ c κs. search needs)
-    (λ c κs. (c .before .before .before .before .before .pre .0, root-fits (c .before .from-root .ensures)))
+    (λ c κs. (c .before .before .before .before .before .before .before .before .pre .0, root-fits (c .before .before .before .before .from-root .ensures)))
     (λ c. search needs)
     (λ c. search needs)
     (λ c κs. search needs)
     (λ c. search needs)
-    (λ c. root-made _ _ _ _ (c .before .before .before .before .before .before .before .from-root .ensures) (c .before .before .before .before .before .before .before .before .before .before .before .pre .1) (c .before .before .before .before .before .expression .ensures) (c .before .n .given .1))
+    (λ c. root-made _ _ _ _ (c .before .before .before .before .before .before .before .before .before .before .from-root .ensures) (c .before .before .before .before .before .before .before .before .before .before .before .before .before .before .pre .1) (c .before .before .before .before .before .expression .ensures) (c .before .n .given .1))
     (λ c. search needs)
-    (λ c. root-refused _ _ _ _ (c .before .before .before .before .before .before .before .before .before .before .before .from-root .ensures) (c .before .before .before .before .before .before .before .before .before .before .before .before .before .before .before .pre .1) (c .before .before .before .before .before .before .before .before .before .expression .ensures) (c .before .before .before .before .before .w .given .1) (c .before .before .clear .ensures)))
+    (λ c. root-refused _ _ _ _ (c .before .before .before .before .before .before .before .before .before .before .before .before .before .before .from-root .ensures) (c .before .before .before .before .before .before .before .before .before .before .before .before .before .before .before .before .before .before .pre .1) (c .before .before .before .before .before .before .before .before .before .expression .ensures) (c .before .before .before .before .before .w .given .1) (c .before .before .clear .ensures)))
