@@ -1,5 +1,5 @@
 #!/usr/bin/env python3
-"""Finds how much stack LOWER, CHECK and RUN need on what is worst for them, through the program of compare/library.
+"""Finds how much stack READ, CHECK, LOWER and RUN need on what is worst for them, through the program of compare/library.
 
     bench/stack.py [WORD]...      every call, or those whose names have these words in them
 
@@ -7,6 +7,7 @@ LOWER recurses as deep as a book's expressions nest, which READ bounds by 255. S
 its own places as deep as may be: no mixture of constructs takes more than the dearest of them does. At the innermost
 place of those that are dearest stand, in turn, the searches and recipes that recurse by themselves.  CHECK goes down the
 same way; it judges parts before the whole, so all but a match's scrutinee may be of any type.
+READ does not recurse, and is tried on books that are as small, as long, as deep and as full of records as may be.
 RUN keeps its depth in a row of its own; it is tried on tables that are as deep, as long or as full as may be.
 For each call it prints the request's bytes, the answer, and the least number of bytes of stack, to a page, with which
 the call returns. That the library does without more is a matter of its compilation, and the same on every x86-64.
@@ -198,6 +199,18 @@ def books():
         yield f"{nest}, in it a loop of 16 bits", nested(nest, fold_of("cw", 16))
 
 
+def flat_books():
+    """Those that are as much as READ takes, and one byte of a book."""
+    yield "a byte", b"t"
+    yield "an empty tuple", pack("tu", []) + pack("et", [0, 0])
+    yield "4,000 values", values()
+    book = Writer()
+    t = book.put("tu")
+    while len(book.bytes) + 6 <= 65535:
+        t = book.put("ts", t, 0, names=[0])
+    yield "types to the last byte, 255 deep", bytes(book.bytes)
+
+
 def typed_books():
     """Those that CHECK goes down in, beside the others."""
     for nest in TYPED_NESTS:
@@ -272,6 +285,8 @@ def tables():
 
 def calls():
     """Each call's name and request."""
+    for name, book in flat_books():
+        yield f"READ: {name}", struct.pack("<BI", 2, len(book)) + book
     for name, book in books():
         yield f"LOWER: {name}", struct.pack("<BBII", 0, 1, FULL, len(book)) + book
     for name, book in (*books(), *typed_books()):
