@@ -14,9 +14,8 @@ use Rattle.named.specs.Combinators.{TAKE, DROP, kinds, wraps}
 use Rattle.named.specs.Draws.{Draws}
 use Rattle.named.specs.declared.node.Pen.{Pen}
 use Rattle.pattern.specs.Find.{size, within, find, findFrom}
-use Rattle.pattern.specs.Seeks.{Found, Seeks}
-use Rattle.pattern.specs.declared.Sought.the-variants as answers
-use Rattle.pattern.proofs.Selectors.{seeks-missing, seeks-found, found-in}
+use Rattle.pattern.specs.Seeks.{Absent, Found}
+use Rattle.pattern.proofs.Selectors.{found-in}
 
 -- the patterns a of a group of s fields that stands m times from field h on
 abbrev pub rowAt : ℕ → (ℕ → Pat) → ℕ → ℕ → Pats
@@ -66,25 +65,23 @@ module _ {w : Option (List Side)} {x s h : ℕ} {a : ℕ → Pat} {n k : ℕ} {t
   passes-kept = ap length (p .table)
 
   -- the elements are all passed: the name is missing
-  pub passes-all : {r : ℕ} {pen : Pen} → n ≤ k → (w ≡ none) × Seeks r t pen w answers.Missing t₁
-  passes-all o =
-      let e : w ≡ none = p .rest ∙ left-none x s a h n k o in
-      (e, rw (p .table) (seeks-missing e))
+  pub passes-all : n ≤ k → Absent w t t₁
+  passes-all o = record { is = p .rest ∙ left-none x s a h n k o; table = p .table }
 
   module _ (j : ℕ) (o : k < n) (e : j ≡ h + k * s) where
     -- one more, if it has not the name
-    pub passes-next : {t₂ : List ℕ} (u : ℕ) → u ≡ k + 1 → find x (a j) ≡ none → t₂ ≡ t₁ → Passes w x s a h n u t t₂
+    pub passes-next : {t₂ : List ℕ} (u : ℕ) → u ≡ k + 1 → Absent (find x (a j)) t₁ t₂ → Passes w x s a h n u t t₂
     unfolding within
-    passes-next u z f same = record {
+    passes-next u z f = record {
       few = p .few;
       low = omega arith;
-      table = same ∙ p .table;
-      rest = let y : suc k ≡ u = omega arith in p .rest ∙ left-next x s a h n k j o e ∙ rw (f, y);
+      table = f .table ∙ p .table;
+      rest = let y : suc k ≡ u = omega arith in p .rest ∙ left-next x s a h n k j o e ∙ rw (f .is, y);
     }
 
     -- the steps to it, if it has
-    pub passes-found : {r : ℕ} {t₂ t₃ : List ℕ} {pen q v : Pen} → Found r t₁ pen (find x (a j)) q t₂ → Draws r t₂ q (wraps r (kinds TAKE DROP (path n k)) (q .root)) v t₃ → Seeks r t pen w (answers.Drawn v) t₃
-    passes-found f d = seeks-found (found-in n k (find x (a j)) (left x s a h n (suc k)) (rw (p .table) at f) (p .rest ∙ left-next x s a h n k j o e) d)
+    pub passes-found : {r : ℕ} {t₂ t₃ : List ℕ} {pen q v : Pen} → Found r t₁ pen (find x (a j)) q t₂ → Draws r t₂ q (wraps r (kinds TAKE DROP (path n k)) (q .root)) v t₃ → Found r t pen w v t₃
+    passes-found f d = found-in n k (find x (a j)) (left x s a h n (suc k)) (rw (p .table) at f) (p .rest ∙ left-next x s a h n k j o e) d
 
 -- a name is found where it stands
 pub name-is : (x z y : ℕ) → y ≡ z → y ≡ x → find x (name z) ≡ some []

@@ -18,10 +18,8 @@ use Rattle.named.specs.Combinators.{iden}
 use Rattle.named.specs.Draws.{Draws}
 use Rattle.named.specs.declared.node.Pen.{Pen}
 use Rattle.pattern.specs.Find.{find, called, paramsPattern, paramsOf}
-use Rattle.pattern.specs.Seeks.{Memo, Searches}
-use Rattle.pattern.specs.declared.Sought.the-variants as answers
-use Rattle.pattern.proofs.Selectors.{seeks-found, found-here}
-use Rattle.pattern.proofs.Memos.{searched-none, searched-on}
+use Rattle.pattern.specs.Seeks.{Found}
+use Rattle.pattern.proofs.Selectors.{found-here}
 use Rattle.pattern.proofs.Passes.{rowAt, left, left-all, name-is, name-not}
 
 -- a function's parameters as a row of names
@@ -77,15 +75,15 @@ module _ {b i : List ℕ} {p : ℕ} (s : Stands b i p PATTERN) where
   finds-none x row one = ap (λ u. find x (asPattern u)) (stands-tree s PN (ignores row one))
 
   -- so a search in it that enters no row: the name is found, or is missing
-  module _ (m : ℕ) (is : m ≡ mark b i p) {x : ℕ} {ms : List ℕ} (v : Memo b i x ms) {r : ℕ} {t : List ℕ} {pen : Pen} where
-    pub name-found : {t′ : List ℕ} {q : Pen} (y : ℕ) → m ≡ PI → y ≡ field b i p 0 → y ≡ x → Draws r t pen (iden r) q t′ → Searches b i x (find x (patternOf b i p)) r t pen (answers.Drawn q) t′ ms
-    name-found y e f o d = searched-on v (seeks-found (found-here (finds-name x (sym is ∙ e) ∙ name-is x _ y f o) d))
+  module _ (m : ℕ) (is : m ≡ mark b i p) where
+    pub name-found : {x r : ℕ} {t t′ : List ℕ} {pen q : Pen} (y : ℕ) → m ≡ PI → y ≡ field b i p 0 → y ≡ x → Draws r t pen (iden r) q t′ → Found r t pen (find x (patternOf b i p)) q t′
+    name-found {x} y e f o d = found-here (finds-name x (sym is ∙ e) ∙ name-is x _ y f o) d
 
-    pub name-missing : (y : ℕ) → m ≡ PI → y ≡ field b i p 0 → (y ≡ x → ⊥) → Searches b i x (find x (patternOf b i p)) r t pen answers.Missing t ms
-    name-missing y e f o = searched-none v (finds-name x (sym is ∙ e) ∙ name-not x _ y f o)
+    pub name-missing : {x : ℕ} (y : ℕ) → m ≡ PI → y ≡ field b i p 0 → (y ≡ x → ⊥) → find x (patternOf b i p) ≡ none
+    name-missing {x} y e f o = finds-name x (sym is ∙ e) ∙ name-not x _ y f o
 
-    pub all-missing : (m ≡ PT → ⊥) → (m ≡ PI → ⊥) → Searches b i x (find x (patternOf b i p)) r t pen answers.Missing t ms
-    all-missing f g = searched-none v (finds-none x (λ e. f (is ∙ e)) (λ e. g (is ∙ e)))
+    pub all-missing : (x : ℕ) → (m ≡ PT → ⊥) → (m ≡ PI → ⊥) → find x (patternOf b i p) ≡ none
+    all-missing x f g = finds-none x (λ e. f (is ∙ e)) (λ e. g (is ∙ e))
 
 -- a function's parameters
 module _ {b i : List ℕ} {f : ℕ} (s : Stands b i f FUNCTION) where

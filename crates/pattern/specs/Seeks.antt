@@ -14,6 +14,8 @@ use Rattle.named.specs.declared.node.Pen.{Pen}
 use Rattle.pattern.specs.Find.{find}
 use Rattle.pattern.specs.declared.Sought.{Sought}
 use Rattle.pattern.specs.declared.Sought.the-variants as answers
+use Rattle.pattern.specs.declared.Near.{Near}
+use Rattle.pattern.specs.declared.Near.the-variants as nears
 
 -- document 01, Scope: the selector of a path, for record r
 abbrev pub selector : ℕ → List Side → Run ℕ
@@ -49,3 +51,14 @@ pub record Memo (b i : List ℕ) (x : ℕ) (ms : List ℕ) : Type 0 where
 pub record Searches (b i : List ℕ) (x : ℕ) (w : Option (List Side)) (r : ℕ) (t : List ℕ) (p : Pen) (s : Sought) (t′ ms : List ℕ) : Type 0 where
   pub memo : Memo b i x ms
   pub sought : Seeks r t p w s t′
+
+-- by the answer of a search without such a row: where it found a row within a row, the table is as it was and nothing is said of w
+unfoldable pub NearFate : ℕ → List ℕ → Pen → Option (List Side) → Near → List ℕ → Type 0
+NearFate r t p w nears.Missing t′ = Absent w t t′
+NearFate r t p w nears.Nested t′ = t′ ≡ t
+NearFate r t p w (nears.Drawn q) t′ = Found r t p w q t′
+
+-- the promise of a search without such a row
+pub record Nears (r : ℕ) (t : List ℕ) (p : Pen) (w : Option (List Side)) (s : Near) (t′ : List ℕ) : Type 0 where
+  pub kept : length t′ ≡ length t
+  pub fate : NearFate r t p w s t′

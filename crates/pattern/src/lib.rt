@@ -5,7 +5,7 @@ ghost use Rattle.book.specs.Index.{mark};
 ghost use Rattle.book.specs.Tree.{patternOf, funOf};
 ghost use Rattle.book.specs.Stands.{Stands};
 ghost use Rattle.pattern.specs.Find.{find, paramsPattern, paramsOf};
-ghost use Rattle.pattern.specs.Seeks.{Seeks, Memo, Searches};
+ghost use Rattle.pattern.specs.Seeks.{Seeks, Memo, Searches, Nears};
 use book::format::PI;
 use book::format::PT;
 use book::record::field_at;
@@ -20,6 +20,14 @@ use named::node::put;
 // What a search for a name comes to: the name is missing and nothing was stored, or its selector was drawn.
 pub enum Sought {
     Missing,
+    Drawn(Pen),
+}
+
+// The same of a search that keeps no row of vain searches; or a row stands within a row, and nothing was stored: that is for a search
+// which keeps one.
+pub enum Near {
+    Missing,
+    Nested,
     Drawn(Pen),
 }
 
@@ -107,4 +115,81 @@ pub fn get_param(
         k += 1;
     }
     Sought::Missing
+}
+
+// Searches a pattern that nests no row in a row, as most do. Each of its places is one record, so nothing need be remembered, and no
+// row has to be cleared first: to clear one for each name was most of what a variable cost.
+pub fn get_shallow(
+    book: &[u8],
+    index: &[u16],
+    p: u16,
+    name: u16,
+    nodes: &mut [u8],
+    place: u16,
+    pen: Pen,
+) -> Near
+    requires { ⌜ Stands (now book) (now index) p PATTERN ⌝ }
+    ensures { λ s. ⌜ Nears place (now (nodes .entry)) pen (find name (patternOf (now (book .entry)) (now (index .entry)) p)) s (now (nodes .exit)) ⌝ }
+{
+    if mark_at(book, index, p) == PT {
+        return get_among(book, index, p, name, nodes, place, pen);
+    }
+    get_single(book, index, p, name, nodes, place, pen)
+}
+
+// The elements of a row from the left, up to the first that is a row itself.
+fn get_among(
+    book: &[u8],
+    index: &[u16],
+    p: u16,
+    name: u16,
+    nodes: &mut [u8],
+    place: u16,
+    pen: Pen,
+) -> Near
+    requires { ⌜ Stands (now book) (now index) p PATTERN ⌝ ∗ ⌜ mark (now book) (now index) p ≡ PT ⌝ }
+    ensures { λ s. ⌜ Nears place (now (nodes .entry)) pen (find name (patternOf (now (book .entry)) (now (index .entry)) p)) s (now (nodes .exit)) ⌝ }
+{
+    let n = field_at(book, index, p, 0) as u32;
+    let mut k: u32 = 0;
+    while k < n {
+        let part = field_at(book, index, p, 1 + (k as usize));
+        match get_single(book, index, part, name, nodes, place, pen) {
+            Near::Drawn(inner) => {
+                return Near::Drawn(along(nodes, place, inner, TAKE, DROP, n, k));
+            }
+            Near::Nested => {
+                return Near::Nested;
+            }
+            Near::Missing => {
+                k += 1;
+            }
+        }
+    }
+    Near::Missing
+}
+
+// A pattern that is no row: a name, or nothing named.
+fn get_single(
+    book: &[u8],
+    index: &[u16],
+    p: u16,
+    name: u16,
+    nodes: &mut [u8],
+    place: u16,
+    pen: Pen,
+) -> Near
+    requires { ⌜ Stands (now book) (now index) p PATTERN ⌝ }
+    ensures { λ s. ⌜ Nears place (now (nodes .entry)) pen (find name (patternOf (now (book .entry)) (now (index .entry)) p)) s (now (nodes .exit)) ⌝ }
+{
+    let mark = mark_at(book, index, p);
+    if mark == PT {
+        return Near::Nested;
+    }
+    if mark == PI {
+        if field_at(book, index, p, 0) == name {
+            return Near::Drawn(put(nodes, place, pen, IDEN, 0, 0));
+        }
+    }
+    Near::Missing
 }

@@ -19,50 +19,57 @@ use Rattle.named.proofs.Runs.{bind-pure}
 use Rattle.named.proofs.Pens.{draw-then, draw-pure, closes, done-stop}
 use Rattle.pattern.specs.Find.{find}
 use Rattle.pattern.specs.Seeks.{Absent, Found, Seeks}
-use Rattle.pattern.specs.declared.Sought.the-variants as answers
-use Rattle.pattern.proofs.Selectors.{wraps-more, seeks-missing, seeks-found, found-on}
-use Rattle.scope_bindings.specs.Scope.{reach, through, lookupFrom, lookup, fetch, bound, newest}
+use Rattle.pattern.specs.declared.Sought.{Sought}
+use Rattle.pattern.proofs.Selectors.{wraps-more, found-on}
+use Rattle.scope_bindings.specs.Scope.{reach, through, lookupFrom, lookup, lookupBelow, fetch, bound, newest}
 use Rattle.scope_bindings.proofs.Scopes.{newest-length}
 
--- a search for x in the first n bindings has passed those from `at` on, and stored nothing
-pub record Misses (b i : List ℕ) (bs : List ℕ) (n x at : ℕ) (t t₁ : List ℕ) : Type 0 where
+-- a search that comes to w, for x in the first n bindings, has passed those from `at` on, and stored nothing
+pub record Misses (w : Option (List Side)) (b i : List ℕ) (bs : List ℕ) (n x at : ℕ) (t t₁ : List ℕ) : Type 0 where
   pub low : at ≤ n
   pub table : t₁ ≡ t
-  pub rest : lookup x (newest b i bs n) ≡ lookupFrom (n - at) x (newest b i bs at)
+  pub rest : w ≡ lookupBelow b i bs n at x
 
--- none passed yet
-pub misses-none : (b i : List ℕ) (bs : List ℕ) (n x : ℕ) (t : List ℕ) → Misses b i bs n x n t t
-misses-none b i bs n x t = let z : n - n ≡ 0 = omega arith in record { low = omega arith; table = refl; rest = rw z }
+-- none passed yet: of those that it is to search; of all there are
+pub misses-none : (b i : List ℕ) (bs : List ℕ) (n x at : ℕ) (t : List ℕ) → at ≤ n → Misses (lookupBelow b i bs n at x) b i bs n x at t t
+misses-none b i bs n x at t o = record { low = o; table = refl; rest = refl }
 
-module _ {b i : List ℕ} {bs : List ℕ} {n x at : ℕ} {t t₁ : List ℕ} (m : Misses b i bs n x at t t₁) where
+pub misses-whole : (b i : List ℕ) (bs : List ℕ) (n x : ℕ) (t : List ℕ) → Misses (lookup x (newest b i bs n)) b i bs n x n t t
+misses-whole b i bs n x t = let z : n - n ≡ 0 = omega arith in record { low = omega arith; table = refl; rest = rw z }
+
+module _ {w : Option (List Side)} {b i : List ℕ} {bs : List ℕ} {n x at : ℕ} {t t₁ : List ℕ} (m : Misses w b i bs n x at t t₁) where
   pub misses-kept : length t₁ ≡ length t
   misses-kept = ap length (m .table)
 
   -- all passed: the name is not in scope
-  pub misses-all : {r : ℕ} {pen : Pen} → at ≤ 0 → Seeks r t pen (lookup x (newest b i bs n)) answers.Missing t₁
+  pub misses-all : at ≤ 0 → Absent w t t₁
   unfolding newest lookupFrom
-  misses-all o = let z : at ≡ 0 = omega arith in rw (m .table) (seeks-missing (m .rest ∙ rw z))
+  misses-all o = record { is = let z : at ≡ 0 = omega arith in m .rest ∙ rw z; table = m .table }
+
+  -- another search goes on from here
+  pub misses-far : {r : ℕ} {t₂ t₃ : List ℕ} {pen : Pen} {s : Sought} (u : ℕ) → u ≡ at → t₂ ≡ t₁ → Seeks r t₂ pen (lookupBelow b i bs n u x) s t₃ → Seeks r t pen w s t₃
+  misses-far u e same h = rw (m .rest, ← m .table, ← same, ← e) h
 
   -- the next binding to search
   module _ (u : ℕ) (o : 0 < at) (e : u ≡ at - 1) where
-    misses-here : lookup x (newest b i bs n) ≡ through (n - at) u (find x (bound b i (getD bs u 0))) (lookupFrom (suc (n - at)) x (newest b i bs u))
+    misses-here : w ≡ through (n - at) u (find x (bound b i (getD bs u 0))) (lookupFrom (suc (n - at)) x (newest b i bs u))
     unfolding newest lookupFrom
     misses-here = let z : at ≡ suc u = omega arith in m .rest ∙ ap (λ k. lookupFrom (n - at) x (newest b i bs k)) z ∙ rw (newest-length b i bs u)
 
-    pub misses-next : {t₂ : List ℕ} → find x (bound b i (getD bs u 0)) ≡ none → t₂ ≡ t₁ → Misses b i bs n x u t t₂
+    pub misses-next : {t₂ : List ℕ} → Absent (find x (bound b i (getD bs u 0))) t₁ t₂ → Misses w b i bs n x u t t₂
     unfolding through
-    misses-next f same = record {
+    misses-next f = record {
       low = omega (arith, m .low);
-      table = same ∙ m .table;
-      rest = let z : suc (n - at) ≡ n - u = omega (arith, m .low) in misses-here ∙ rw (f, z);
+      table = f .table ∙ m .table;
+      rest = let z : suc (n - at) ≡ n - u = omega (arith, m .low) in misses-here ∙ rw (f .is, z);
     }
 
-    pub misses-found : {r : ℕ} {t₂ t₃ : List ℕ} {pen q v : Pen} (newer : ℕ) → newer ≡ n - 1 - u → Found r t₁ pen (find x (bound b i (getD bs u 0))) q t₂ → Draws r t₂ q (wraps r (kinds TAKE DROP (reach newer u)) (q .root)) v t₃ → Seeks r t pen (lookup x (newest b i bs n)) (answers.Drawn v) t₃
+    pub misses-found : {r : ℕ} {t₂ t₃ : List ℕ} {pen q v : Pen} (newer : ℕ) → newer ≡ n - 1 - u → Found r t₁ pen (find x (bound b i (getD bs u 0))) q t₂ → Draws r t₂ q (wraps r (kinds TAKE DROP (reach newer u)) (q .root)) v t₃ → Found r t pen w v t₃
     unfolding through
     misses-found {r = r} {t₂ = t₂} {pen = pen} {q = q} newer y f d =
         let z : n - at ≡ newer = omega (arith, m .low) in
         let g : Found r t pen (find x (bound b i (getD bs u 0))) q t₂ = rw (m .table) at f in
-        seeks-found (found-on (reach newer u) g (misses-here ∙ rw (g .is, z)) d)
+        found-on (reach newer u) g (misses-here ∙ rw (g .is, z)) d
 
 -- drops, one after another
 module _ {r : ℕ} {t : List ℕ} {p : Pen} where

@@ -1,6 +1,6 @@
 -- A scope: its bindings, and the path from the environment to a name.
 -- Assumes nothing.
-use Prim.Native.Nat.{ℕ, zero, suc, _+_, _<_, _≤_}
+use Prim.Native.Nat.{ℕ, zero, suc, _+_, _-_, _<_, _≤_}
 use mathlib.Core.List.{List, [], _∷_, _++_}
 use mathlib.Core.Option.{Option, some, none}
 use mathlib.Core.Path.{_≡_}
@@ -55,6 +55,10 @@ bound b i x = pick (eqb x IGNORED) ignore (pick (eqb (kind b i x) FUNCTION) (par
 unfoldable pub newest : List ℕ → List ℕ → List ℕ → ℕ → List Pat
 newest b i bs zero = []
 newest b i bs (suc n) = bound b i (getD bs n 0) ∷ newest b i bs n
+
+-- the path to the name x in the first k of n entries, where the others are newer
+abbrev pub lookupBelow : List ℕ → List ℕ → List ℕ → ℕ → ℕ → ℕ → Option (List Side)
+lookupBelow b i bs n k x = lookupFrom (n - k) x (newest b i bs k)
 
 abbrev pub scopeOf : List ℕ → List ℕ → ScopeBindings → List Pat
 scopeOf b i s = newest b i (s .bindings) (s .count)

@@ -1,12 +1,12 @@
 // The bindings of a scope: a fixed row, searched from the newest.
 ghost use mathlib.Core.Path.{_≡_};
-ghost use Prim.Native.Nat.{_<_};
+ghost use Prim.Native.Nat.{_<_, _≤_};
 ghost use lib.ListN.{length, replicate};
 ghost use Rattle.named.specs.Combinators.{TAKE, DROP, kinds, wraps};
 ghost use Rattle.named.specs.Draws.{Draws, Done};
 ghost use Rattle.pattern.specs.Find.{find};
-ghost use Rattle.pattern.specs.Seeks.{Memo, Searches};
-ghost use Rattle.scope_bindings.specs.Scope.{reach, lookup, variable, bound, scopeOf, lent, Binds, ScopeStands, Roots, Inserts};
+ghost use Rattle.pattern.specs.Seeks.{Memo, Seeks, Searches, Nears};
+ghost use Rattle.scope_bindings.specs.Scope.{reach, lookup, lookupBelow, variable, bound, scopeOf, lent, Binds, ScopeStands, Roots, Inserts};
 use book::fault::Fault;
 use book::fault::Refusal;
 use book::format::FN;
@@ -18,9 +18,11 @@ use named::node::TAKE;
 use named::node::answer_of;
 use named::node::pen_at;
 use named::node::put;
+use pattern::Near;
 use pattern::Sought;
 use pattern::get_from;
 use pattern::get_param;
+use pattern::get_shallow;
 
 // An entry for the ignore pattern, which no record need stand for.
 pub const IGNORED: u16 = 65535;
@@ -87,19 +89,8 @@ pub fn get(
     requires { ⌜ ScopeStands (now book) (now index) (lent (now bindings) count) ⌝ }
     ensures { λ s. ⌜ Done (now (nodes .entry)) next (variable place name (scopeOf (now (book .entry)) (now (index .entry)) (lent (now (bindings .entry)) count))) s (now (nodes .exit)) ⌝ }
 {
-    let mut missing = [0u8; 4096];
     let pen = pen_at(next);
-    match get_newest(
-        book,
-        index,
-        bindings,
-        count,
-        name,
-        &mut missing,
-        nodes,
-        place,
-        pen,
-    ) {
+    match get_near(book, index, bindings, count, name, nodes, place, pen) {
         Sought::Drawn(found) => answer_of(place, found),
         Sought::Missing => Stored::Refused(Refusal {
             fault: Fault::Undefined,
@@ -108,22 +99,115 @@ pub fn get(
     }
 }
 
-// Searches the bindings from the newest on. One row of what was sought in vain serves them all, since they may share their parts.
+// Searches the bindings from the newest on, with no row of what was sought in vain, as long as their patterns are flat. To clear such a
+// row for each name was most of what a variable cost. The first binding that has a row within a row is searched anew, with a row.
+fn get_near(
+    book: &[u8],
+    index: &[u16],
+    bindings: &[u16],
+    count: usize,
+    name: u16,
+    nodes: &mut [u8],
+    place: u16,
+    pen: Pen,
+) -> Sought
+    requires { ⌜ ScopeStands (now book) (now index) (lent (now bindings) count) ⌝ }
+    ensures { λ s. ⌜ Seeks place (now (nodes .entry)) pen (lookup name (scopeOf (now (book .entry)) (now (index .entry)) (lent (now (bindings .entry)) count))) s (now (nodes .exit)) ⌝ }
+{
+    let mut at = count;
+    while 0 < at {
+        at -= 1;
+        let pattern = bindings[at];
+        match get_flat(book, index, pattern, name, nodes, place, pen) {
+            Near::Drawn(found) => {
+                return Sought::Drawn(reach(nodes, place, found, count - 1 - at, at));
+            }
+            Near::Nested => {
+                let from = at + 1;
+                return get_far(book, index, bindings, count, from, name, nodes, place, pen);
+            }
+            Near::Missing => {}
+        }
+    }
+    Sought::Missing
+}
+
+// Searches one binding, if its pattern is flat.
+fn get_flat(
+    book: &[u8],
+    index: &[u16],
+    pattern: u16,
+    name: u16,
+    nodes: &mut [u8],
+    place: u16,
+    pen: Pen,
+) -> Near
+    requires { ⌜ Binds (now book) (now index) pattern ⌝ }
+    ensures { λ s. ⌜ Nears place (now (nodes .entry)) pen (find name (bound (now (book .entry)) (now (index .entry)) pattern)) s (now (nodes .exit)) ⌝ }
+{
+    if pattern == IGNORED {
+        return Near::Missing;
+    }
+    if mark_at(book, index, pattern) == FN {
+        match get_param(book, index, pattern, name, nodes, place, pen) {
+            Sought::Drawn(found) => {
+                return Near::Drawn(found);
+            }
+            Sought::Missing => {
+                return Near::Missing;
+            }
+        }
+    }
+    get_shallow(book, index, pattern, name, nodes, place, pen)
+}
+
+// Searches the first `from` bindings, the others having been searched in vain, with a row of what was sought in vain.
+fn get_far(
+    book: &[u8],
+    index: &[u16],
+    bindings: &[u16],
+    count: usize,
+    from: usize,
+    name: u16,
+    nodes: &mut [u8],
+    place: u16,
+    pen: Pen,
+) -> Sought
+    requires { ⌜ ScopeStands (now book) (now index) (lent (now bindings) count) ⌝ ∗ ⌜ from ≤ count ⌝ }
+    ensures { λ s. ⌜ Seeks place (now (nodes .entry)) pen (lookupBelow (now (book .entry)) (now (index .entry)) (now (bindings .entry)) count from name) s (now (nodes .exit)) ⌝ }
+{
+    let mut missing = [0u8; 4096];
+    get_newest(
+        book,
+        index,
+        bindings,
+        count,
+        from,
+        name,
+        &mut missing,
+        nodes,
+        place,
+        pen,
+    )
+}
+
+// The same, the newest of them first. One row of what was sought in vain serves them all, since they may share their parts.
 fn get_newest(
     book: &[u8],
     index: &[u16],
     bindings: &[u16],
     count: usize,
+    from: usize,
     name: u16,
     missing: &mut [u8],
     nodes: &mut [u8],
     place: u16,
     pen: Pen,
 ) -> Sought
-    requires { ⌜ ScopeStands (now book) (now index) (lent (now bindings) count) ⌝ ∗ ⌜ Memo (now book) (now index) name (now missing) ⌝ }
-    ensures { λ s. ⌜ Searches (now (book .entry)) (now (index .entry)) name (lookup name (scopeOf (now (book .entry)) (now (index .entry)) (lent (now (bindings .entry)) count))) place (now (nodes .entry)) pen s (now (nodes .exit)) (now (missing .exit)) ⌝ }
+    requires { ⌜ ScopeStands (now book) (now index) (lent (now bindings) count) ⌝ ∗ ⌜ from ≤ count ⌝ ∗ ⌜ Memo (now book) (now index) name (now missing) ⌝ }
+    ensures { λ s. ⌜ Searches (now (book .entry)) (now (index .entry)) name (lookupBelow (now (book .entry)) (now (index .entry)) (now (bindings .entry)) count from name) place (now (nodes .entry)) pen s (now (nodes .exit)) (now (missing .exit)) ⌝ }
 {
-    let mut at = count;
+    let mut at = from;
     while 0 < at {
         at -= 1;
         let pattern = bindings[at];

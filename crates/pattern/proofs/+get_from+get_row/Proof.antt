@@ -9,8 +9,8 @@ use Rattle.book.specs.Tree.{patternOf}
 use Rattle.book.proofs.Standing.{stands-begins}
 use Rattle.pattern.specs.Find.{find}
 use Rattle.pattern.specs.Seeks.{Memo}
-use Rattle.pattern.proofs.Selectors.{sought-missing, sought-drawn}
-use Rattle.pattern.proofs.Memos.{memo-more, memo-fits, searched-on, known-missing}
+use Rattle.pattern.proofs.Selectors.{seeks-absent, seeks-found, sought-missing, sought-drawn}
+use Rattle.pattern.proofs.Memos.{memo-more, memo-fits, searched-none, searched-on, known-missing}
 use Rattle.pattern.proofs.Passes.{Passes, passes-none, passes-kept, passes-all, passes-next, passes-found}
 use Rattle.pattern.proofs.Records.{finds-row, name-lies, name-found, name-missing, all-missing, row-count, row-lies, row-part, row-most}
 use borrow.Author.Needs.{needs}
@@ -73,9 +73,9 @@ pub +get-from+get-row-spec : {M : Type 1} → statement M
     (λ c κs. name-lies (search needs) _ (c .before .before .mark-at .ensures) (c .if3 .taken))
     (λ c κs. search needs)
     (λ c. search needs)
-    (λ c. name-found (search needs) _ (c .before .before .before .before .before .before .before .before .mark-at .ensures) (search needs) _ (c .before .before .before .before .before .before .if3 .taken) (c .before .before .before .before .before .field-at .ensures) (c .before .before .before .before .if4 .taken) (c .before .before .put .ensures))
-    (λ c. name-missing (search needs) _ (c .before .before .before .before .mark-at .ensures) (search needs) _ (c .before .before .if3 .taken) (c .before .field-at .ensures) (c .if4 .left))
-    (λ c. all-missing (search needs) _ (c .before .before .mark-at .ensures) (search needs) (c .before .if2 .left) (c .if3 .left)))
+    (λ c. searched-on (search needs) (seeks-found (name-found (search needs) _ (c .before .before .before .before .before .before .before .before .mark-at .ensures) _ (c .before .before .before .before .before .before .if3 .taken) (c .before .before .before .before .before .field-at .ensures) (c .before .before .before .before .if4 .taken) (c .before .before .put .ensures))))
+    (λ c. searched-none (search needs) (name-missing (search needs) _ (c .before .before .before .before .mark-at .ensures) _ (c .before .before .if3 .taken) (c .before .field-at .ensures) (c .if4 .left)))
+    (λ c. searched-none (search needs) (all-missing (search needs) _ (c .before .before .mark-at .ensures) _ (c .before .if2 .left) (c .if3 .left))))
     (λ t. get-row-lts.spec (get-row-claims t) (get-row-at t) get-row.Post
     get-row-Inv-loop
     get-row-μ-loop
@@ -90,12 +90,12 @@ pub +get-from+get-row-spec : {M : Type 1} → statement M
     (λ c κs. search needs)
     (λ c. c .before .before .before .before .before .before .before .before .before .before .before .get-from .ensures .memo .size ∙ sym (c .before .before .before .before .before .before .before .before .before .before .before .before .before .before .before .before .before .before .before .before .before .before .pre .1 .1 .1 .size))
     (λ c. c .before .before .along .ensures .kept ∙ c .before .before .before .before .before .before .before .before .before .before .before .get-from .ensures .sought .kept ∙ passes-kept (c .before .before .before .before .before .before .before .before .before .before .before .before .before .before .before .before .loop .inv .1))
-    (λ c. searched-on (c .before .before .before .before .before .before .before .before .before .before .before .get-from .ensures .memo) (passes-found (c .before .before .before .before .before .before .before .before .before .before .before .before .before .before .before .before .loop .inv .1) _ (omega arith) (omega arith) (sought-drawn (rw (c .before .before .before .before .before .before .before .before .before .before .before .before .before .before .field-at2 .ensures) at (c .before .before .before .before .before .before .before .before .before .before .before .get-from .ensures .sought)) (search needs)) (c .before .before .along .ensures)))
+    (λ c. searched-on (c .before .before .before .before .before .before .before .before .before .before .before .get-from .ensures .memo) (seeks-found (passes-found (c .before .before .before .before .before .before .before .before .before .before .before .before .before .before .before .before .loop .inv .1) _ (omega arith) (omega arith) (sought-drawn (rw (c .before .before .before .before .before .before .before .before .before .before .before .before .before .before .field-at2 .ensures) at (c .before .before .before .before .before .before .before .before .before .before .before .get-from .ensures .sought)) (search needs)) (c .before .before .along .ensures))))
     (λ c. search needs)
     (λ c. search needs)
     (λ c. search needs)
-    (λ c. let none = sought-missing (rw (c .before .before .before .before .before .before .before .before .before .field-at2 .ensures) at (c .before .before .before .before .before .before .get-from .ensures .sought)) (search needs) in (c .before .before .before .before .before .before .get-from .ensures .memo, passes-next (c .before .before .before .before .before .before .before .before .before .before .before .loop .inv .1) _ (omega arith) (omega arith) _ (omega arith) (none .is) (none .table)))
+    (λ c. (c .before .before .before .before .before .before .get-from .ensures .memo, passes-next (c .before .before .before .before .before .before .before .before .before .before .before .loop .inv .1) _ (omega arith) (omega arith) _ (omega arith) (sought-missing (rw (c .before .before .before .before .before .before .before .before .before .field-at2 .ensures) at (c .before .before .before .before .before .before .get-from .ensures .sought)) (search needs))))
     (λ c. search memo-fits)
     (λ c. length-set (c .before .loop .missing) (c .before .before .before .before .before .before .before .args .p) 1 ∙ c .before .loop .inv .0 .size ∙ sym (c .before .before .before .before .before .before .before .pre .1 .1 .1 .size))
     (λ c. passes-kept (c .before .loop .inv .1))
-    (λ c. let all = passes-all (c .before .loop .inv .1) (omega arith) in searched-on (memo-more _ (c .before .loop .inv .0) (all .0)) (all .1)))
+    (λ c. let all = passes-all (c .before .loop .inv .1) (omega arith) in searched-on (memo-more _ (c .before .loop .inv .0) (all .is)) (seeks-absent all)))

@@ -1,12 +1,12 @@
 -- `get_param` meets its contract: each parameter before k has another name.
 -- Assumes nothing.
 use Prim.Native.Nat.{_-_}
-use mathlib.Core.Path.{refl, _∙_}
+use mathlib.Core.Path.{_∙_}
 use native.Mathlib.Omega.{arith}
 use Rattle.book.specs.Index.{field}
 use Rattle.book.specs.Tree.{name, funOf}
 use Rattle.pattern.specs.Find.{find, paramsPattern, paramsOf}
-use Rattle.pattern.proofs.Selectors.{found-here}
+use Rattle.pattern.proofs.Selectors.{absent, found-here, seeks-absent, seeks-found}
 use Rattle.pattern.proofs.Passes.{Passes, passes-none, passes-kept, passes-all, passes-next, passes-found, name-is, name-not}
 use Rattle.pattern.proofs.Records.{params-count, params-most, params-lie, finds-params}
 use borrow.Author.Needs.{needs}
@@ -29,9 +29,9 @@ get-param-spec =
     (λ c κs. search needs)
     (λ c κs. search needs)
     (λ c. c .before .before .along .ensures .kept ∙ c .before .before .before .before .before .before .put .ensures .kept ∙ passes-kept (c .before .before .before .before .before .before .before .before .before .before .before .loop .inv))
-    (λ c. passes-found (c .before .before .before .before .before .before .before .before .before .before .before .loop .inv) _ (omega arith) (omega arith) (found-here (name-is _ _ _ (c .before .before .before .before .before .before .before .before .before .field-at2 .ensures) (c .before .before .before .before .before .before .before .before .if1 .taken)) (c .before .before .before .before .before .before .put .ensures)) (c .before .before .along .ensures))
+    (λ c. seeks-found (passes-found (c .before .before .before .before .before .before .before .before .before .before .before .loop .inv) _ (omega arith) (omega arith) (found-here (name-is _ _ _ (c .before .before .before .before .before .before .before .before .before .field-at2 .ensures) (c .before .before .before .before .before .before .before .before .if1 .taken)) (c .before .before .before .before .before .before .put .ensures)) (c .before .before .along .ensures)))
     (λ c. search needs)
     (λ c. search needs)
-    (λ c. passes-next (c .before .before .before .loop .inv) _ (omega arith) (omega arith) _ (omega arith) (name-not _ _ _ (c .before .field-at2 .ensures) (c .if1 .left)) refl)
+    (λ c. passes-next (c .before .before .before .loop .inv) _ (omega arith) (omega arith) _ (omega arith) (absent (name-not _ _ _ (c .before .field-at2 .ensures) (c .if1 .left))))
     (λ c. passes-kept (c .before .loop .inv))
-    (λ c. passes-all (c .before .loop .inv) (omega arith) .1))
+    (λ c. seeks-absent (passes-all (c .before .loop .inv) (omega arith))))

@@ -1,7 +1,5 @@
 -- `get` meets its contract: the pen's answer where the name is found, else the refusal.
 -- Assumes nothing.
-use mathlib.Core.Path.{refl}
-use Rattle.pattern.proofs.Memos.{memo-none}
 use Rattle.pattern.proofs.Selectors.{sought-missing, sought-drawn}
 use Rattle.scope_bindings.proofs.Reaches.{fetch-found, fetch-missing}
 use borrow.Author.Needs.{needs}
@@ -13,12 +11,11 @@ get-spec =
     tie.close
     (tie.spec
     (λ c κs. search needs)
-    (λ c. search needs)
-    (λ c κs. (c .before .before .before .before .before .before .before .pre, memo-none _ _ _ _ refl))
+    (λ c κs. search needs)
     (λ c. search needs)
     (λ c κs. search needs)
     (λ c. search needs)
     (λ c. search needs)
-    (λ c. fetch-found (c .before .before .before .before .before .before .before .before .before .before .pen-at .ensures) (sought-drawn (c .before .before .before .before .before .before .before .get-newest .ensures .sought) (search needs)) (c .answer-of .ensures))
+    (λ c. fetch-found (c .before .before .before .before .before .before .before .before .pen-at .ensures) (sought-drawn (c .before .before .before .before .before .before .get-near .ensures) (search needs)) (c .answer-of .ensures))
     (λ c. search needs)
-    (λ c. fetch-missing (sought-missing (c .before .before .before .before .before .get-newest .ensures .sought) (search needs))))
+    (λ c. fetch-missing (sought-missing (c .before .before .before .before .get-near .ensures) (search needs))))
