@@ -9,16 +9,15 @@ use mathlib.Core.Path.{_≡_, refl, sym, ap, _∙_}
 use native.Mathlib.Omega.{arith}
 use borrow.Author.Tests.{eq-eqb, ne-eqb}
 use lib.Dec.{eqb}
-use lib.ListN.{replicate}
+use lib.ListN.{length, replicate}
 use Rattle.laws.specs.Table.{pick, both, true-false}
 use Rattle.simplicity.specs.Types.{Ty, one, same}
-use Rattle.book.specs.Format.{TYPE, PATTERN, PT}
+use Rattle.book.specs.Format.{PATTERN, PT}
 use Rattle.book.specs.Index.{mark, field}
 use Rattle.book.specs.Stands.{Stands}
 use Rattle.book.specs.Tree.{Pat, patRow, noPats, morePats, asPattern, typeOf, patternOf}
-use Rattle.book.proofs.Standing.{stands-tree, stands-few}
+use Rattle.book.proofs.Standing.{stands-tree}
 use Rattle.book.proofs.Built.{group-next, group-none}
-use Rattle.pattern.proofs.Memos.{zero-size}
 use Rattle.pattern.proofs.Passes.{rowAt, size-row}
 use Rattle.pattern.proofs.Records.{but-row, row-most}
 use Rattle.shapes.specs.Shapes.{products, placeOf}
@@ -29,19 +28,16 @@ use Rattle.shapes.proofs.Same.{gives-none, gives-some}
 use Rattle.binders.proofs.Bits.{marked-none}
 
 -- a row of zeros knows no pair
-pub known-none : (b i memo : List ℕ) → memo ≡ replicate 524288 0 → Known b i memo
-known-none b i memo e = record {
-  size = zero-size 524288 e;
-  sound = λ p t h m. absurd (true-false (sym m ∙ marked-none 524288 p t e));
-}
+pub known-none : (b i memo : List ℕ) (n : ℕ) → memo ≡ replicate n 0 → Known b i memo
+known-none b i memo n e = record { sound = λ p t m. absurd (true-false (sym m ∙ marked-none n p t e)) }
 
 -- what is marked still fits where a pair that fits was marked
-known-case : {b i memo : List ℕ} {p t q s : ℕ} → Known b i memo → fits (patternOf b i p) (typeOf b i t) ≡ true → s < 4096 → (marked memo q s ≡ true) ⊎ ((q ≡ p) × (s ≡ t)) → fits (patternOf b i q) (typeOf b i s) ≡ true
-known-case {q = q} {s} k f h (inl e) = k .sound q s h e
-known-case k f h (inr e) = rw (e .0, e .1) f
+known-case : {b i memo : List ℕ} {p t q s : ℕ} → Known b i memo → fits (patternOf b i p) (typeOf b i t) ≡ true → (marked memo q s ≡ true) ⊎ ((q ≡ p) × (s ≡ t)) → fits (patternOf b i q) (typeOf b i s) ≡ true
+known-case {q = q} {s} k f (inl e) = k .sound q s e
+known-case k f (inr e) = rw (e .0, e .1) f
 
 known-more : {b i memo memo′ : List ℕ} {p t : ℕ} → Known b i memo → fits (patternOf b i p) (typeOf b i t) ≡ true → Marks memo p t memo′ → Known b i memo′
-known-more k f m = record { size = m .kept ∙ k .size; sound = λ q s h e. known-case k f h (m .only q s h e) }
+known-more k f m = record { sound = λ q s e. known-case k f (m .only q s e) }
 
 -- whether the elements from k on fit, of a row of n whose element at field j is a j
 unfoldable pub fitsLeft : ℕ → (ℕ → Pat) → Ty → ℕ → Bool
@@ -79,8 +75,8 @@ module _ {b i memo : List ℕ} (k : Known b i memo) where
   pub fitted-other : {p : ℕ} → Stands b i p PATTERN → (t : Ty) {m : ℕ} → m ≡ mark b i p → (m ≡ PT → ⊥) → Fitted b i (fits (patternOf b i p) t) true memo
   fitted-other s t is other = record { known = k; is = sym (fits-other s t (λ e. other (is ∙ e))) }
 
-  pub fitted-known : (p : ℕ) {t : ℕ} {f : Bool} → Stands b i t TYPE → f ≡ marked memo p t → f ≡ true → Fitted b i (fits (patternOf b i p) (typeOf b i t)) true memo
-  fitted-known p {t} s is e = record { known = k; is = sym (k .sound p t (stands-few s) (sym is ∙ e)) }
+  pub fitted-known : (p t : ℕ) {f : Bool} → f ≡ marked memo p t → f ≡ true → Fitted b i (fits (patternOf b i p) (typeOf b i t)) true memo
+  fitted-known p t is e = record { known = k; is = sym (k .sound p t (sym is ∙ e)) }
 
   pub fitted-empty : {p : ℕ} → Stands b i p PATTERN → (t : Ty) {n : ℕ} {f : Bool} → mark b i p ≡ PT → n ≡ field b i p 0 → n ≡ 0 → f ≡ same t one → Fitted b i (fits (patternOf b i p) t) f memo
   fitted-empty s t {n} e z o is = record { known = k; is = is ∙ sym (fits-row s t n e z ∙ rw (eq-eqb n 0 o)) }
@@ -89,17 +85,18 @@ module _ {b i memo : List ℕ} (k : Known b i memo) where
 pub fitted-marked : {b i memo memo′ : List ℕ} {p t : ℕ} {f : Bool} → Fitted b i (fits (patternOf b i p) (typeOf b i t)) f memo → f ≡ true → Marks memo p t memo′ → Fitted b i (fits (patternOf b i p) (typeOf b i t)) true memo′
 fitted-marked d e m = let v = sym e ∙ d .is in record { known = known-more (d .known) (sym v) m; is = v }
 
--- v is whether the elements from k on of a row of n fit, and the pairs that are marked fit
-pub record Fitting (b i : List ℕ) (v : Bool) (n : ℕ) (a : ℕ → Pat) (t : Ty) (k : ℕ) (memo : List ℕ) : Type 0 where
+-- v is whether the elements from k on of a row of n fit, and the pairs that are marked fit, in a memo as long as the one it was
+pub record Fitting (b i : List ℕ) (v : Bool) (n : ℕ) (a : ℕ → Pat) (t : Ty) (k : ℕ) (memo₀ memo : List ℕ) : Type 0 where
+  pub kept : length memo ≡ length memo₀
   pub few : n ≤ 256
   pub known : Known b i memo
   pub rest : v ≡ fitsLeft n a t k
 
 -- no element was looked at yet
-pub fitting-none : {b i memo : List ℕ} {p : ℕ} → Known b i memo → Stands b i p PATTERN → (t : Ty) {n : ℕ} → mark b i p ≡ PT → n ≡ field b i p 0 → (n ≡ 0 → ⊥) → Fitting b i (fits (patternOf b i p) t) n (λ j. patternOf b i (field b i p j)) t 0 memo
-fitting-none k s t {n} e z filled = record { few = row-most s n e z; known = k; rest = fits-row s t n e z ∙ rw (ne-eqb n 0 filled) }
+pub fitting-none : {b i memo : List ℕ} {p : ℕ} → Known b i memo → Stands b i p PATTERN → (t : Ty) {n : ℕ} → mark b i p ≡ PT → n ≡ field b i p 0 → (n ≡ 0 → ⊥) → Fitting b i (fits (patternOf b i p) t) n (λ j. patternOf b i (field b i p j)) t 0 memo memo
+fitting-none k s t {n} e z filled = record { kept = refl; few = row-most s n e z; known = k; rest = fits-row s t n e z ∙ rw (ne-eqb n 0 filled) }
 
-module _ {b i memo : List ℕ} {v : Bool} {n : ℕ} {a : ℕ → Pat} {t : Ty} {k : ℕ} (w : Fitting b i v n a t k memo) where
+module _ {b i memo₀ memo : List ℕ} {v : Bool} {n : ℕ} {a : ℕ → Pat} {t : Ty} {k : ℕ} (w : Fitting b i v n a t k memo₀ memo) where
   -- all were looked at: the row fits
   pub fitting-all : n ≤ k → Fitted b i v true memo
   fitting-all o = record { known = w .known; is = sym (w .rest ∙ fits-none n a t k o) }
@@ -113,8 +110,9 @@ module _ {b i memo : List ℕ} {v : Bool} {n : ℕ} {a : ℕ → Pat} {t : Ty} {
       pub fitting-not : f ≡ false → Fitted b i v false memo′
       fitting-not e = record { known = d .known; is = sym (w .rest ∙ fits-next n a t k o ∙ rw (gives-some g there, ← (d .is), e)) }
 
-      pub fitting-next : {u : ℕ} → f ≡ true → u ≡ k + 1 → Fitting b i v n a t u memo′
-      fitting-next {u} e z = record {
+      pub fitting-next : {u : ℕ} → f ≡ true → u ≡ k + 1 → length memo′ ≡ length memo → Fitting b i v n a t u memo₀ memo′
+      fitting-next {u} e z l = record {
+        kept = l ∙ w .kept;
         few = w .few;
         known = d .known;
         rest = let y : suc k ≡ u = omega arith in w .rest ∙ fits-next n a t k o ∙ rw (gives-some g there, ← (d .is), e, y);

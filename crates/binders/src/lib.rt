@@ -4,19 +4,21 @@ ghost use mathlib.Core.List.{[], _∷_};
 ghost use mathlib.Core.Path.{_≡_};
 ghost use mathlib.Core.Bool.{false};
 ghost use mathlib.Core.Option.{none};
-ghost use Prim.Native.Nat.{_<_};
+ghost use Prim.Native.Nat.{_+_, _<_};
 ghost use lib.ListN.{length, replicate};
 ghost use Rattle.book.specs.Format.{TYPE, PATTERN, FUNCTION, PT};
-ghost use Rattle.book.specs.Index.{mark};
+ghost use Rattle.book.specs.Index.{mark, kind};
 ghost use Rattle.book.specs.Stands.{Stands};
 ghost use Rattle.book.specs.Valid.{Valid};
 ghost use Rattle.book.specs.Tree.{typeOf, patternOf, funOf};
-ghost use Rattle.pattern.specs.Find.{find, paramsOf};
+ghost use Rattle.pattern.specs.Find.{find};
 ghost use Rattle.pattern.specs.Seeks.{Memo};
 ghost use Rattle.shapes.specs.Views.{Gives};
-ghost use Rattle.binders.specs.Binders.{fits, names, paramNames, twice, typeFor, scopeIn};
-ghost use Rattle.binders.specs.Memos.{marked, Known, Marks, Fitted, Sights, Met, Nameless, Notes, Tallies, Doubled, Binds, scopeOf, Live, Newest};
+ghost use Rattle.binders.specs.Binders.{fits, names, typeFor, scopeIn};
+ghost use Rattle.binders.specs.Memos.{widthOf, wordOf, marked, Known, Marks, Fitted, Sights, Met, Nameless, Notes, Tallies, Bears, paramsTwice, Doubled, Repeats, Binds, scopeOf, Live, Newest};
+use book::format::FN;
 use book::format::PI;
+use book::format::PN;
 use book::format::PT;
 use book::format::TP;
 use book::record::field_at;
@@ -26,24 +28,54 @@ use shapes::part::NONE;
 use shapes::part::is_unit;
 use shapes::part::place;
 
-// Whether a pattern is known to fit a type: a bit for each pair.
+// How many words of the memo a pattern has: a bit for each type that there may be, where the memo is that of a small book or of a large.
+fn width_of(length: usize) -> usize
+    ensures { λ w. ⌜ w ≡ widthOf length ⌝ }
+{
+    if length <= 8192 {
+        return 16;
+    }
+    128
+}
+
+// The word of a pair, in a memo of so many words: its end where the pattern has no bit for the type.
+fn word_of(p: usize, t: usize, length: usize) -> usize
+    requires { ⌜ p < 65536 ⌝ }
+    ensures { λ w. ⌜ w ≡ wordOf length p t ⌝ }
+{
+    let width = width_of(length);
+    if 32 * width <= t {
+        return length;
+    }
+    p * width + t / 32
+}
+
+// Whether a pattern is known to fit a type: a bit for each pair. Of a pair beyond the memo nothing is known.
 fn known(p: usize, t: usize, memo: &[u32]) -> bool
-    requires { ⌜ (p < 4096) × (t < 4096) × (length (now memo) ≡ 524288) ⌝ }
+    requires { ⌜ p < 65536 ⌝ }
     ensures { λ r. ⌜ r ≡ marked (now (memo .entry)) p t ⌝ }
 {
-    let v = memo[p * 128 + t / 32];
+    let at = word_of(p, t, memo.len());
+    if memo.len() <= at {
+        return false;
+    }
+    let v = memo[at];
     (v >> (t % 32)) % 2 == 1
 }
 
 fn mark(p: usize, t: usize, memo: &mut [u32])
-    requires { ⌜ (p < 4096) × (t < 4096) × (length (now memo) ≡ 524288) ⌝ }
+    requires { ⌜ p < 65536 ⌝ }
     ensures { λ _. ⌜ Marks (now (memo .entry)) p t (now (memo .exit)) ⌝ }
 {
     if known(p, t, memo) {
         return;
     }
-    let v = memo[p * 128 + t / 32];
-    memo[p * 128 + t / 32] = v + (1u32 << (t % 32));
+    let at = word_of(p, t, memo.len());
+    if memo.len() <= at {
+        return;
+    }
+    let v = memo[at];
+    memo[at] = v + (1u32 << (t % 32));
 }
 
 // Whether a pattern fits a type. What is found to fit is kept for later questions; what does not fit ends them all.
@@ -95,48 +127,63 @@ pub enum Noted {
     Unnamed,
 }
 
-fn note(name: u16, met: &mut [u8]) -> Noted
-    requires { ⌜ Met (now met) ⌝ }
-    ensures { λ s. ⌜ Notes (name ∷ []) (now (met .entry)) s (now (met .exit)) ⌝ }
+// Meets a name with a stamp. A row of names is used again with another stamp, and is not cleared.
+fn note(name: u16, met: &mut [u16], stamp: u16) -> Noted
+    requires { ⌜ Met stamp (now met) ⌝ }
+    ensures { λ s. ⌜ Notes stamp (name ∷ []) (now (met .entry)) s (now (met .exit)) ⌝ }
 {
-    if met[name as usize] == 1 {
+    if met[name as usize] == stamp {
         return Noted::Twice;
     }
-    met[name as usize] = 1;
+    met[name as usize] = stamp;
     Noted::Named
 }
 
 // Meets the names of a pattern: `nameless` has a 1 for each record that was found to have none. A record with names that is met
 // again leads straight to a name that was met.
-fn note_all(book: &[u8], index: &[u16], p: u16, met: &mut [u8], nameless: &mut [u8]) -> Noted
-    requires { ⌜ Stands (now book) (now index) p PATTERN ⌝ ∗ ⌜ Met (now met) ⌝ ∗ ⌜ Nameless (now book) (now index) (now nameless) ⌝ }
-    ensures { λ s. ⌜ Tallies (now (book .entry)) (now (index .entry)) (names (patternOf (now (book .entry)) (now (index .entry)) p)) (now (met .entry)) s (now (met .exit)) (now (nameless .exit)) ⌝ }
+fn note_all(
+    book: &[u8],
+    index: &[u16],
+    p: u16,
+    met: &mut [u16],
+    stamp: u16,
+    nameless: &mut [u8],
+) -> Noted
+    requires { ⌜ Stands (now book) (now index) p PATTERN ⌝ ∗ ⌜ Met stamp (now met) ⌝ ∗ ⌜ Nameless (now book) (now index) (now nameless) ⌝ }
+    ensures { λ s. ⌜ Tallies (now (book .entry)) (now (index .entry)) stamp (names (patternOf (now (book .entry)) (now (index .entry)) p)) (now (met .entry)) s (now (met .exit)) (now (nameless .exit)) ⌝ }
 {
     if nameless[p as usize] == 1 {
         return Noted::Unnamed;
     }
     let mark = mark_at(book, index, p);
     if mark == PT {
-        return note_row(book, index, p, met, nameless);
+        return note_row(book, index, p, met, stamp, nameless);
     }
     if mark == PI {
         let name = field_at(book, index, p, 0);
-        return note(name, met);
+        return note(name, met, stamp);
     }
     Noted::Unnamed
 }
 
 // The same for a row: its elements one after another.
-fn note_row(book: &[u8], index: &[u16], p: u16, met: &mut [u8], nameless: &mut [u8]) -> Noted
-    requires { ⌜ Stands (now book) (now index) p PATTERN ⌝ ∗ ⌜ mark (now book) (now index) p ≡ PT ⌝ ∗ ⌜ Met (now met) ⌝ ∗ ⌜ Nameless (now book) (now index) (now nameless) ⌝ }
-    ensures { λ s. ⌜ Tallies (now (book .entry)) (now (index .entry)) (names (patternOf (now (book .entry)) (now (index .entry)) p)) (now (met .entry)) s (now (met .exit)) (now (nameless .exit)) ⌝ }
+fn note_row(
+    book: &[u8],
+    index: &[u16],
+    p: u16,
+    met: &mut [u16],
+    stamp: u16,
+    nameless: &mut [u8],
+) -> Noted
+    requires { ⌜ Stands (now book) (now index) p PATTERN ⌝ ∗ ⌜ mark (now book) (now index) p ≡ PT ⌝ ∗ ⌜ Met stamp (now met) ⌝ ∗ ⌜ Nameless (now book) (now index) (now nameless) ⌝ }
+    ensures { λ s. ⌜ Tallies (now (book .entry)) (now (index .entry)) stamp (names (patternOf (now (book .entry)) (now (index .entry)) p)) (now (met .entry)) s (now (met .exit)) (now (nameless .exit)) ⌝ }
 {
     let n = field_at(book, index, p, 0) as usize;
     let mut any = false;
     let mut k: usize = 0;
     while k < n {
         let part = field_at(book, index, p, 1 + k);
-        match note_all(book, index, part, met, nameless) {
+        match note_all(book, index, part, met, stamp, nameless) {
             Noted::Twice => {
                 return Noted::Twice;
             }
@@ -154,48 +201,65 @@ fn note_row(book: &[u8], index: &[u16], p: u16, met: &mut [u8], nameless: &mut [
     Noted::Unnamed
 }
 
-// Whether a pattern has a name twice.
-fn repeats(book: &[u8], index: &[u16], p: u16, nameless: &mut [u8]) -> bool
-    requires { ⌜ Stands (now book) (now index) p PATTERN ⌝ ∗ ⌜ Nameless (now book) (now index) (now nameless) ⌝ }
-    ensures { λ r. ⌜ (r ≡ twice (names (patternOf (now (book .entry)) (now (index .entry)) p))) × Nameless (now (book .entry)) (now (index .entry)) (now (nameless .exit)) ⌝ }
+// The record that has all names of a row: none, the one part of it that bears names, or the row itself.
+fn bearer(book: &[u8], index: &[u16], p: u16, nameless: &[u8]) -> u16
+    requires { ⌜ Stands (now book) (now index) p PATTERN ⌝ ∗ ⌜ mark (now book) (now index) p ≡ PT ⌝ ∗ ⌜ Nameless (now book) (now index) (now nameless) ⌝ }
+    ensures { λ s. ⌜ Bears (now (book .entry)) (now (index .entry)) p s ⌝ }
 {
-    let mut met = [0u8; 65536];
-    match note_all(book, index, p, &mut met, nameless) {
+    let n = field_at(book, index, p, 0) as usize;
+    let mut only = NONE;
+    let mut k: usize = 0;
+    while k < n {
+        let part = field_at(book, index, p, 1 + k);
+        if nameless[part as usize] != 1 {
+            if only != NONE {
+                return p;
+            }
+            only = part;
+        }
+        k += 1;
+    }
+    only
+}
+
+// Whether a row has a name twice. Where one part alone bears names, that part's answer is the row's, so that a chain of rows is not
+// walked again for each of them. The names are met with a stamp of the row's own.
+fn repeats(
+    book: &[u8],
+    index: &[u16],
+    p: u16,
+    met: &mut [u16],
+    nameless: &mut [u8],
+    doubled: &[u8],
+) -> bool
+    requires { ⌜ Stands (now book) (now index) p PATTERN ⌝ ∗ ⌜ mark (now book) (now index) p ≡ PT ⌝ ∗ ⌜ Met p (now met) ⌝ ∗ ⌜ Nameless (now book) (now index) (now nameless) ⌝ ∗ ⌜ Doubled (now book) (now index) p (now doubled) ⌝ }
+    ensures { λ f. ⌜ Repeats (now (book .entry)) (now (index .entry)) p f (now (met .exit)) (now (nameless .exit)) ⌝ }
+{
+    let s = bearer(book, index, p, nameless);
+    if s == NONE {
+        nameless[p as usize] = 1;
+        return false;
+    }
+    if s != p {
+        return doubled[s as usize] == 1;
+    }
+    match note_all(book, index, p, met, p + 1, nameless) {
         Noted::Twice => true,
         Noted::Named => false,
         Noted::Unnamed => false,
     }
 }
 
-// Marks each of the first n records that is a pattern with a name twice. It is worked out before patterns are bound, so that no row of
-// names stands in a recursion. What is found to have no names is known to all patterns.
-pub fn doubles(book: &[u8], index: &[u16], n: u16, doubled: &mut [u8])
-    requires { ⌜ Valid (now book) (now index) n ⌝ ∗ ⌜ now doubled ≡ replicate 4096 0 ⌝ }
-    ensures { λ _. ⌜ Doubled (now (book .entry)) (now (index .entry)) n (now (doubled .exit)) ⌝ }
+// Whether a function's parameter list has a name twice. The names are met with a stamp of the function's own.
+fn params_repeat(book: &[u8], index: &[u16], f: u16, met: &mut [u16]) -> bool
+    requires { ⌜ Stands (now book) (now index) f FUNCTION ⌝ ∗ ⌜ Met f (now met) ⌝ }
+    ensures { λ r. ⌜ (r ≡ paramsTwice (now (book .entry)) (now (index .entry)) f) × Met (f + 1) (now (met .exit)) ⌝ }
 {
-    let mut nameless = [0u8; 4096];
-    let mut r: u16 = 0;
-    while r < n {
-        if mark_at(book, index, r) == PT {
-            if repeats(book, index, r, &mut nameless) {
-                doubled[r as usize] = 1;
-            }
-        }
-        r += 1;
-    }
-}
-
-// Whether a function's parameter list has a name twice.
-pub fn params_repeat(book: &[u8], index: &[u16], f: u16) -> bool
-    requires { ⌜ Stands (now book) (now index) f FUNCTION ⌝ }
-    ensures { λ r. ⌜ r ≡ twice (paramNames (paramsOf (funOf (now (book .entry)) (now (index .entry)) f))) ⌝ }
-{
-    let mut met = [0u8; 65536];
     let n = field_at(book, index, f, 1) as usize;
     let mut k: usize = 0;
     while k < n {
         let name = field_at(book, index, f, 2 + 2 * k);
-        match note(name, &mut met) {
+        match note(name, met, f + 1) {
             Noted::Twice => {
                 return true;
             }
@@ -205,6 +269,48 @@ pub fn params_repeat(book: &[u8], index: &[u16], f: u16) -> bool
         k += 1;
     }
     false
+}
+
+// Whether record r is a pattern or a function with a name twice. The stamps of the records before it are lower than its own.
+fn doubled_at(
+    book: &[u8],
+    index: &[u16],
+    r: u16,
+    met: &mut [u16],
+    nameless: &mut [u8],
+    doubled: &[u8],
+) -> bool
+    requires { ⌜ Stands (now book) (now index) r (kind (now book) (now index) r) ⌝ ∗ ⌜ Met r (now met) ⌝ ∗ ⌜ Nameless (now book) (now index) (now nameless) ⌝ ∗ ⌜ Doubled (now book) (now index) r (now doubled) ⌝ }
+    ensures { λ f. ⌜ Repeats (now (book .entry)) (now (index .entry)) r f (now (met .exit)) (now (nameless .exit)) ⌝ }
+{
+    let m = mark_at(book, index, r);
+    if m == PT {
+        return repeats(book, index, r, met, nameless, doubled);
+    }
+    if m == FN {
+        return params_repeat(book, index, r, met);
+    }
+    if m == PN {
+        nameless[r as usize] = 1;
+    }
+    false
+}
+
+// Marks each of the first n records that is a pattern or a function with a name twice. It is worked out before they are judged, so that
+// one row of names serves the whole book. What is found to have no names is known to all patterns.
+pub fn doubles(book: &[u8], index: &[u16], n: u16, doubled: &mut [u8])
+    requires { ⌜ Valid (now book) (now index) n ⌝ ∗ ⌜ now doubled ≡ replicate 4096 0 ⌝ }
+    ensures { λ _. ⌜ Doubled (now (book .entry)) (now (index .entry)) n (now (doubled .exit)) ⌝ }
+{
+    let mut met = [0u16; 65536];
+    let mut nameless = [0u8; 4096];
+    let mut r: u16 = 0;
+    while r < n {
+        if doubled_at(book, index, r, &mut met, &mut nameless, doubled) {
+            doubled[r as usize] = 1;
+        }
+        r += 1;
+    }
 }
 
 // The type of a name in a pattern that fits a type, at its first place from the left. `missing` has a 1 for each record in which this

@@ -23,8 +23,8 @@ use Rattle.parts.specs.Parts.{Marked}
 use Rattle.pattern.specs.Find.{paramsOf}
 use Rattle.shapes.specs.Shapes.{typeIs}
 use Rattle.shapes.specs.Views.{NONE, Gives}
-use Rattle.binders.specs.Binders.{fits, names, paramNames, twice, Binding, scopeIn, typeFor}
-use Rattle.binders.specs.Memos.{Fitted, Live, scopeOf}
+use Rattle.binders.specs.Binders.{fits, twice, paramNames, Binding, scopeIn, typeFor}
+use Rattle.binders.specs.Memos.{Fitted, patternTwice, paramsTwice, Live, scopeOf}
 use Rattle.typing.specs.Check.{andThen, hold, agree, binds, known, check, checkFun}
 use Rattle.typing.specs.Cycle.{Rows, Scoped, Enough, Stays, Bound, liveAfter}
 use Rattle.typing.specs.declared.cycle.Checked.{Checked}
@@ -46,27 +46,18 @@ module _ {b i : List ℕ} {r : ℕ} (sc : List Binding) (g : Marked b i r EV) (x
       let k : Stands b i t TYPE = rw y (head-stands (g .stands) EV (g .is) 0 tt tt) in
       a ∙ sym (variable-is b i r sc g ∙ rw (← z, gives-some d e, ← y, ← types-same k (gives-stands d e)))
 
--- whether a pattern has a name twice, as its row says
-module _ {b i ds memo ms bs : List ℕ} (o : Rows b i ds memo ms bs) {p : ℕ} (k : Stands b i p PATTERN) where
-  row-says : getD ds p 0 ≡ pick (twice (names (patternOf b i p))) 1 0
-  row-says = o .doubled p k
+-- the row that says which records have a name twice has an entry for each that stands
+pub doubled-long : {b i ds memo ms bs : List ℕ} {r kd : ℕ} → Rows b i ds memo ms bs → Stands b i r kd → r < length ds
+doubled-long o k = omega (arith, stands-few k, o .long)
 
-  pub doubled-long : p < length ds
-  doubled-long = omega (arith, stands-few k, o .long)
+-- what such an entry says
+doubled-yes : {v : ℕ} (t : Bool) → v ≡ pick t 1 0 → v ≡ 1 → t ≡ true
+doubled-yes true h e = refl
+doubled-yes false h e = absurd (omega arith)
 
-  doubled-yes : getD ds p 0 ≡ 1 → twice (names (patternOf b i p)) ≡ true
-  doubled-yes e = go (twice (names (patternOf b i p))) (sym row-says ∙ e)
-    where
-      go : (t : Bool) → _≡_ {A = ℕ} (pick t 1 0) 1 → t ≡ true
-      go true q = refl
-      go false q = absurd (omega arith)
-
-  doubled-no : (getD ds p 0 ≡ 1 → ⊥) → twice (names (patternOf b i p)) ≡ false
-  doubled-no e = go (twice (names (patternOf b i p))) (λ q. e (row-says ∙ q))
-    where
-      go : (t : Bool) → (_≡_ {A = ℕ} (pick t 1 0) 1 → ⊥) → t ≡ false
-      go true q = absurd (q refl)
-      go false q = refl
+doubled-no : {v : ℕ} (t : Bool) → v ≡ pick t 1 0 → (v ≡ 1 → ⊥) → t ≡ false
+doubled-no true h e = absurd (e h)
+doubled-no false h e = refl
 
 -- a binding: its pattern doesn't fit, or has a name twice, or is bound
 module _ {b i ds memo ms bs : List ℕ} {n base : ℕ} (s : Scoped b i ds memo ms bs n base) (r : ℕ) {p t : ℕ} (k : Stands b i p PATTERN) {f : Bool} {m₁ : List ℕ} (d : Fitted b i (fits (patternOf b i p) (typeOf b i t)) f m₁) where
@@ -80,14 +71,14 @@ module _ {b i ds memo ms bs : List ℕ} {n base : ℕ} (s : Scoped b i ds memo m
   pub bind-twice : f ≡ true → getD ds p 0 ≡ 1 → Bound b i (binds r (patternOf b i p) (typeOf b i t)) p t n base bs (Refused (refusal faults.Name r)) m₁ ms bs
   unfolding binds
   bind-twice e w = record {
-    stays = record { is = rw (sym (d .is) ∙ e, doubled-yes (s .rows) k w); known = d .known; missing = s .rows .missing; kept = refl; before = λ j h. refl };
+    stays = record { is = rw (sym (d .is) ∙ e, doubled-yes (patternTwice b i p) (s .rows .patterns p k) w); known = d .known; missing = s .rows .missing; kept = refl; before = λ j h. refl };
     newer = λ o. absurd (never o);
   }
 
   pub bind-passed : f ≡ true → (getD ds p 0 ≡ 1 → ⊥) → (h : n < 65280) → Stands b i t TYPE → Bound b i (binds r (patternOf b i p) (typeOf b i t)) p t n base bs Passed m₁ ms (wider s h p t)
   unfolding binds
   bind-passed e w h q = record {
-    stays = wider-stays s h p t (rw (sym (d .is) ∙ e, doubled-no (s .rows) k w)) (d .known);
+    stays = wider-stays s h p t (rw (sym (d .is) ∙ e, doubled-no (patternTwice b i p) (s .rows .patterns p k) w)) (d .known);
     newer = λ o. wider-holds s h p t (record { pattern = k; type = q; fit = sym (d .is) ∙ e });
   }
 
@@ -118,13 +109,13 @@ module _ {b i : List ℕ} {f : ℕ} (k : Stands b i f FUNCTION) where
   pub fun-live : {bs : List ℕ} → Live b i bs 0 f
   fun-live = record { room = omega arith; each = λ j h. absurd (omega arith); based = inr k }
 
-  module _ {ds memo ms bs : List ℕ} (o : Rows b i ds memo ms bs) {w : Bool} (q : w ≡ twice (paramNames (paramsOf (funOf b i f)))) where
-    pub fun-twice : w ≡ true → Stays b i (checkFun (funOf b i f)) 0 bs (Refused (refusal faults.Name f)) memo ms bs
-    fun-twice e = at-once o (sym (fun-is _ _ refl refl ∙ rw (sym q ∙ e)))
+  module _ {ds memo ms bs : List ℕ} (o : Rows b i ds memo ms bs) where
+    pub fun-twice : getD ds f 0 ≡ 1 → Stays b i (checkFun (funOf b i f)) 0 bs (Refused (refusal faults.Name f)) memo ms bs
+    fun-twice e = at-once o (sym (fun-is _ _ refl refl ∙ rw (doubled-yes (paramsTwice b i f) (o .functions f k) e)))
 
-    module _ (e : w ≡ false) {n x : ℕ} (z : n ≡ field b i f 1) (y : x ≡ field b i f (2 + 2 * n)) {c : Checked} {m₁ ms₁ bs₁ : List ℕ} (d : Stays b i (check (exprOf b i x) (scopeOf b i bs 0 f)) 0 bs c m₁ ms₁ bs₁) where
+    module _ (e : getD ds f 0 ≡ 1 → ⊥) {n x : ℕ} (z : n ≡ field b i f 1) (y : x ≡ field b i f (2 + 2 * n)) {c : Checked} {m₁ ms₁ bs₁ : List ℕ} (d : Stays b i (check (exprOf b i x) (scopeOf b i bs 0 f)) 0 bs c m₁ ms₁ bs₁) where
       body-of : checkFun (funOf b i f) ≡ andThen (check (exprOf b i x) (scopeOf b i bs 0 f)) (agree (same (typeIs (exprOf b i x)) (typeOf b i (field b i f 0))) f)
-      body-of = fun-is n x z y ∙ rw (sym q ∙ e, base-is bs)
+      body-of = fun-is n x z y ∙ rw (doubled-no (paramsTwice b i f) (o .functions f k) e, base-is bs)
 
       pub fun-halt : {u : Refusal} → c ≡ Refused u → Stays b i (checkFun (funOf b i f)) 0 bs (Refused u) m₁ ms₁ bs₁
       fun-halt g = stays-of (both-halt d _ g) body-of

@@ -10,7 +10,7 @@ use borrow.Author.Tests.{ne-eqb}
 use lib.ListN.{length, getD, replicate, length-replicate}
 use Rattle.laws.specs.Order.{by-lt}
 use Rattle.laws.specs.Table.{among, every, _also_}
-use Rattle.book.specs.Format.{VALUE, PATTERN, FUNCTION, EXPRESSION, PI, PN, PT, kindOf}
+use Rattle.book.specs.Format.{VALUE, PATTERN, FUNCTION, EXPRESSION, PI, PN, PT, FN, kindOf}
 use Rattle.book.specs.Index.{mark, kind, field, Begins}
 use Rattle.book.specs.Read.{markAt, kindAt, fieldAt, readOf, indexOf, Outcome, done, refused, reading, placesOf}
 use Rattle.book.specs.Read as read
@@ -23,7 +23,7 @@ use Rattle.book.specs.declared.fault.ReadAnswer.the-variants as reads
 use Rattle.book.proofs.Established.{answer-valid}
 use Rattle.book.proofs.Tiles.{read-tiles}
 use Rattle.book.proofs.Roles.{record-begins}
-use Rattle.book.proofs.Standing.{stands-mark, stands-tree, each-below}
+use Rattle.book.proofs.Standing.{stands-mark, stands-tree, head-below, each-below, function-mark}
 use Rattle.shapes.specs.Wholes.{valueAgrees}
 use Rattle.shapes.specs.Views.{NONE}
 use Rattle.binders.specs.Binders.{names, twice, rootScope}
@@ -164,11 +164,18 @@ module _ {b i : List ℕ} {n r : ℕ} (v : Valid b i n) (w : Tiles b i n) (h : n
   pub beyond-once : twice (names (patternOf b i r)) ≡ false
   beyond-once = once-at (mark b i r) refl
 
+-- and a function there is none, since it names the type that it gives, which is earlier
+beyond-none : {b i : List ℕ} {n r : ℕ} → Valid b i n → Tiles b i n → n ≤ r → Stands b i r FUNCTION → ⊥
+beyond-none {b} {n = n} v w h s =
+    let first : Stands b _ 0 FUNCTION = record { records = n; valid = v; inside = v .some; is = ap (kindAt b) (w .begins ∙ sym (w .beyond _ h)) ∙ s .is } in
+    omega (arith, head-below first FN (function-mark first) 0 tt tt)
+
 -- the rows before the first judgement
 pub rows-first : {b i ds memo ms bs : List ℕ} {n : ℕ} → Valid b i n → Tiles b i n → Doubled b i n ds → Known b i memo → length ms ≡ 4096 → length bs ≡ 130560 → Rows b i ds memo ms bs
 rows-first {n = n} v w d k m l = record {
   long = d .size;
-  doubled = λ r s. by-lt r n (λ h. d .is r h (s .is)) (λ h. d .beyond r h ∙ rw (beyond-once v w h s));
+  patterns = λ r s. by-lt r n (λ h. d .patterns r h (s .is)) (λ h. d .beyond r h ∙ rw (beyond-once v w h s));
+  functions = λ r s. by-lt r n (λ h. d .functions r h (s .is)) (λ h. absurd (beyond-none v w h s));
   known = k;
   missing = m;
   room = l;

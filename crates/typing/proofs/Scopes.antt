@@ -34,7 +34,7 @@ module _ {b i : List ℕ} {v : Checked} {n : ℕ} {bs : List ℕ} {c : Checked} 
   stays-scope base = scope-same b i bs bs′ base n (s .before)
 
   pub stays-rows : {ds memo ms : List ℕ} → Rows b i ds memo ms bs → Rows b i ds m ms′ bs′
-  stays-rows h = record { long = h .long; doubled = h .doubled; known = s .known; missing = s .missing; room = s .kept ∙ h .room }
+  stays-rows h = record { long = h .long; patterns = h .patterns; functions = h .functions; known = s .known; missing = s .missing; room = s .kept ∙ h .room }
 
   pub stays-scoped : {ds memo ms : List ℕ} {base : ℕ} → Scoped b i ds memo ms bs n base → Scoped b i ds m ms′ bs′ n base
   stays-scoped {base = base} h = record { rows = stays-rows (h .rows); live = live-same b i bs bs′ base n (s .kept) (s .before) (h .live) }

@@ -42,13 +42,9 @@ holds false h = absurd h
 pub never : {w : Refusal} → Refused w ≡ Passed → ⊥
 never e = let z : _≡_ {A = ℕ} 0 1 = cc in omega arith
 
--- the rows stay as long as they were
-module _ {b i ds memo ms bs : List ℕ} (o : Rows b i ds memo ms bs) {v : Checked} {n : ℕ} {bs₀ : List ℕ} {c : Checked} {m₁ ms₁ bs₁ : List ℕ} (d : Stays b i v n bs₀ c m₁ ms₁ bs₁) where
-  pub memo-length : length m₁ ≡ length memo
-  memo-length = d .known .size ∙ sym (o .known .size)
-
-  pub missing-length : length ms₁ ≡ length ms
-  missing-length = d .missing ∙ sym (o .missing)
+-- the row of what was sought in vain stays as long as it was
+pub missing-length : {b i ds memo ms bs : List ℕ} → Rows b i ds memo ms bs → {v : Checked} {n : ℕ} {bs₀ : List ℕ} {c : Checked} {m₁ ms₁ bs₁ : List ℕ} → Stays b i v n bs₀ c m₁ ms₁ bs₁ → length ms₁ ≡ length ms
+missing-length o d = d .missing ∙ sym (o .missing)
 
 -- from one element to the next
 stride-next : (f s k : ℕ) → f + s * (k + 1) ≡ f + s * k + s
@@ -112,7 +108,7 @@ module _ {b i : List ℕ} (r : ℕ) {p t e n base : ℕ} {bs : List ℕ} {c : Ch
 -- after a binding there is one more
 pub bound-scoped : {b i ds memo ms bs : List ℕ} {n base p t : ℕ} {v c : Checked} {m₁ ms₁ bs₁ : List ℕ} → Bound b i v p t n base bs c m₁ ms₁ bs₁ → c ≡ Passed → Scoped b i ds memo ms bs n base → Scoped b i ds m₁ ms₁ bs₁ (n + 1) base
 bound-scoped d e s = record {
-  rows = record { long = s .rows .long; doubled = s .rows .doubled; known = d .stays .known; missing = d .stays .missing; room = d .stays .kept ∙ s .rows .room };
+  rows = record { long = s .rows .long; patterns = s .rows .patterns; functions = s .rows .functions; known = d .stays .known; missing = d .stays .missing; room = d .stays .kept ∙ s .rows .room };
   live = d .newer e .live;
 }
 
@@ -145,20 +141,21 @@ module _ {b i : List ℕ} {t n k s : ℕ} (p : Places b i t n) (h : k < n) (g : 
       go (nowhere e z) = absurd (true-false (sym there-at ∙ not-there z))
       go (record-of q e) = is-there e
 
--- a row of judgements: those before k, of most, have passed, and w is what is left
-pub record Going (b i : List ℕ) (v : Checked) (n : ℕ) (bs : List ℕ) (w : Checked) (m₁ ms₁ bs₁ : List ℕ) (k most : ℕ) : Type 0 where
+-- a row of judgements: those before k, of most, have passed, and w is what is left. The memo is as long as it was
+pub record Going (b i : List ℕ) (v : Checked) (n : ℕ) (m bs : List ℕ) (w : Checked) (m₁ ms₁ bs₁ : List ℕ) (k most : ℕ) : Type 0 where
   pub low : k ≤ most
+  pub long : length m₁ ≡ length m
   pub stays : Stays b i v n bs w m₁ ms₁ bs₁
 
 -- none was judged yet
-pub going-start : {b i ds memo ms bs : List ℕ} (v : Checked) {w : Checked} (n most : ℕ) → Rows b i ds memo ms bs → v ≡ w → Going b i v n bs w memo ms bs 0 most
-going-start v n most o e = record { low = omega arith; stays = stays-as (stays-start v (o .known) (o .missing)) (sym e) }
+pub going-start : {b i ds memo ms bs : List ℕ} (v : Checked) {w : Checked} (n most : ℕ) → Rows b i ds memo ms bs → v ≡ w → Going b i v n memo bs w memo ms bs 0 most
+going-start v n most o e = record { low = omega arith; long = refl; stays = stays-as (stays-start v (o .known) (o .missing)) (sym e) }
 
-module _ {b i : List ℕ} {v : Checked} {n : ℕ} {bs : List ℕ} {w : Checked} {m₁ ms₁ bs₁ : List ℕ} {k most : ℕ} (g : Going b i v n bs w m₁ ms₁ bs₁ k most) where
+module _ {b i : List ℕ} {v : Checked} {n : ℕ} {m bs : List ℕ} {w : Checked} {m₁ ms₁ bs₁ : List ℕ} {k most : ℕ} (g : Going b i v n m bs w m₁ ms₁ bs₁ k most) where
   -- one more was judged, x, after which y is left
   module _ {x : Checked} {c : Checked} {m₂ ms₂ bs₂ : List ℕ} (d : Stays b i x n bs₁ c m₂ ms₂ bs₂) (y : Checked) (e : w ≡ andThen x y) where
-    pub going-next : (j : ℕ) → c ≡ Passed → k < most → j ≡ k + 1 → Going b i v n bs y m₂ ms₂ bs₂ j most
-    going-next j f h z = record { low = omega arith; stays = stays-next d y (stays-as (g .stays) (sym e)) (omega arith) f }
+    pub going-next : (j : ℕ) → c ≡ Passed → k < most → j ≡ k + 1 → length m₂ ≡ length m₁ → Going b i v n m bs y m₂ ms₂ bs₂ j most
+    going-next j f h z l = record { low = omega arith; long = l ∙ g .long; stays = stays-next d y (stays-as (g .stays) (sym e)) (omega arith) f }
 
     pub going-halt : {u : Refusal} → c ≡ Refused u → Stays b i v n bs (Refused u) m₂ ms₂ bs₂
     going-halt {u} f = stays-halt d y (stays-as (g .stays) (sym e)) (omega arith) u f
@@ -207,28 +204,30 @@ module _ (b i : List ℕ) (r from n : ℕ) (sc : List Binding) {e : ℕ} (t : �
   unfolding matchOf
   match-not h = rw (← z, ← y, h)
 
--- a block: the statements before k have passed, and so many bindings are live
-pub record Block (b i : List ℕ) (r n live base : ℕ) (bs m₁ ms₁ bs₁ : List ℕ) (at k : ℕ) : Type 0 where
+-- a block: the statements before k have passed, and so many bindings are live. The memo is as long as it was
+pub record Block (b i : List ℕ) (r n live base : ℕ) (m bs m₁ ms₁ bs₁ : List ℕ) (at k : ℕ) : Type 0 where
   pub low : k ≤ n
+  pub long : length m₁ ≡ length m
   pub from : live ≤ at
   pub few : at ≤ live + k
   pub live-now : Live b i bs₁ at base
   pub stays : Stays b i (blockOf b i r (scopeOf b i bs live base)) live bs (statements (stmtsOf b i r (2 + k) (n - k)) (scopeOf b i bs₁ at base)) m₁ ms₁ bs₁
 
-pub block-start : {b i ds memo ms bs : List ℕ} {live base : ℕ} (r n : ℕ) → Scoped b i ds memo ms bs live base → n ≡ field b i r 1 → Block b i r n live base bs memo ms bs live 0
+pub block-start : {b i ds memo ms bs : List ℕ} {live base : ℕ} (r n : ℕ) → Scoped b i ds memo ms bs live base → n ≡ field b i r 1 → Block b i r n live base memo bs memo ms bs live 0
 unfolding blockOf
 block-start {b} {i} {bs = bs} {live = live} {base = base} r n s e = record {
   low = omega arith;
+  long = refl;
   from = omega arith;
   few = omega arith;
   live-now = s .live;
   stays = let y : n - 0 ≡ n = omega arith in rw (y, e) (stays-start _ (s .rows .known) (s .rows .missing));
 }
 
-module _ {b i : List ℕ} {r n live base : ℕ} {bs m₁ ms₁ bs₁ : List ℕ} {at k : ℕ} (g : Block b i r n live base bs m₁ ms₁ bs₁ at k) where
+module _ {b i : List ℕ} {r n live base : ℕ} {m bs m₁ ms₁ bs₁ : List ℕ} {at k : ℕ} (g : Block b i r n live base m bs m₁ ms₁ bs₁ at k) where
   pub block-scoped : {ds memo ms : List ℕ} → Scoped b i ds memo ms bs live base → Scoped b i ds m₁ ms₁ bs₁ at base
   block-scoped s = record {
-    rows = record { long = s .rows .long; doubled = s .rows .doubled; known = g .stays .known; missing = g .stays .missing; room = g .stays .kept ∙ s .rows .room };
+    rows = record { long = s .rows .long; patterns = s .rows .patterns; functions = s .rows .functions; known = g .stays .known; missing = g .stays .missing; room = g .stays .kept ∙ s .rows .room };
     live = g .live-now;
   }
 
@@ -240,13 +239,14 @@ module _ {b i : List ℕ} {r n live base : ℕ} {bs m₁ ms₁ bs₁ : List ℕ}
     pub block-halt : {w : Refusal} → c ≡ Refused w → Stays b i (blockOf b i r (scopeOf b i bs live base)) live bs (Refused w) m₂ ms₂ bs₂
     block-halt {w} f = stays-halt (d .stays) _ (stays-as (g .stays) (sym (left-is _))) (g .from) w f
 
-    pub block-next : (j u : ℕ) → c ≡ Passed → j ≡ k + 1 → u ≡ liveAfter b i s at → Block b i r n live base bs m₂ ms₂ bs₂ u j
-    block-next j u f e q =
+    pub block-next : (j u : ℕ) → c ≡ Passed → j ≡ k + 1 → u ≡ liveAfter b i s at → length m₂ ≡ length m₁ → Block b i r n live base m bs m₂ ms₂ bs₂ u j
+    block-next j u f e q l =
         let y : 2 + k + 1 ≡ 2 + j = omega arith in
         let x : n - (k + 1) ≡ n - j = rw e in
         let w = d .newer f in
         record {
           low = omega arith;
+          long = l ∙ g .long;
           from = omega (arith, g .from, after-least b i s at);
           few = omega (arith, g .few, after-most b i s at);
           live-now = rw q (w .live);
@@ -334,22 +334,22 @@ module _ (b i : List ℕ) (r m : ℕ) (sc : List Binding) where
   parts-row e f g h = rw (ne-eqb _ _ e, ne-eqb _ _ f, ne-eqb _ _ g, ne-eqb _ _ h)
 
 -- one more element of a row
-module _ (base : ℕ) {b i : List ℕ} {r m : ℕ} {v : Checked} {n : ℕ} {bs : List ℕ} {p : Span} {m₁ ms₁ bs₁ : List ℕ} {k : ℕ} (a : Spanned b i r m p) (g : Going b i v n bs (checksAt b i r (scopeOf b i bs n base) (p .stride) (p .from + p .stride * k) (p .count - k)) m₁ ms₁ bs₁ k (p .count)) (h : k < p .count) {x : ℕ} {c : Checked} {m₂ ms₂ bs₂ : List ℕ} (d : Stays b i (check (exprOf b i x) (scopeOf b i bs₁ n base)) n bs₁ c m₂ ms₂ bs₂) (z : x ≡ field b i r (p .from + p .stride * k)) where
+module _ (base : ℕ) {b i : List ℕ} {r m : ℕ} {v : Checked} {n : ℕ} {m₀ bs : List ℕ} {p : Span} {m₁ ms₁ bs₁ : List ℕ} {k : ℕ} (a : Spanned b i r m p) (g : Going b i v n m₀ bs (checksAt b i r (scopeOf b i bs n base) (p .stride) (p .from + p .stride * k) (p .count - k)) m₁ ms₁ bs₁ k (p .count)) (h : k < p .count) {x : ℕ} {c : Checked} {m₂ ms₂ bs₂ : List ℕ} (d : Stays b i (check (exprOf b i x) (scopeOf b i bs₁ n base)) n bs₁ c m₂ ms₂ bs₂) (z : x ≡ field b i r (p .from + p .stride * k)) where
   abbrev element : Stays b i (check (exprOf b i x) (scopeOf b i bs n base)) n bs₁ c m₂ ms₂ bs₂
   element = stays-of d (ap (check (exprOf b i x)) (sym (stays-scope (g .stays) base)))
 
-  pub row-again : (j : ℕ) → c ≡ Passed → j ≡ k + 1 → Going b i v n bs (checksAt b i r (scopeOf b i bs n base) (p .stride) (p .from + p .stride * j) (p .count - j)) m₂ ms₂ bs₂ j (p .count)
+  pub row-again : (j : ℕ) → c ≡ Passed → j ≡ k + 1 → length m₂ ≡ length m₁ → Going b i v n m₀ bs (checksAt b i r (scopeOf b i bs n base) (p .stride) (p .from + p .stride * j) (p .count - j)) m₂ ms₂ bs₂ j (p .count)
   row-again j f e = going-next g element _ (row-next (scopeOf b i bs n base) a k j x h e z) j f h e
 
   pub row-halt : {w : Refusal} → c ≡ Refused w → Stays b i v n bs (Refused w) m₂ ms₂ bs₂
   row-halt f = going-halt g element _ (row-next (scopeOf b i bs n base) a k (k + 1) x h refl z) f
 
 -- one more arm
-module _ (r from t base s : ℕ) {b i : List ℕ} {m : ℕ} {v : Checked} {n : ℕ} {bs m₁ ms₁ bs₁ : List ℕ} {k : ℕ} (g : Going b i v n bs (armsFrom b i r from m (typeOf b i t) (scopeOf b i bs n base) k (m - k)) m₁ ms₁ bs₁ k m) (h : k < m) {c : Checked} {m₂ ms₂ bs₂ : List ℕ} (d : Stays b i (armOf b i r (from + 2 * k) (typeOf b i s) (scopeOf b i bs₁ n base)) n bs₁ c m₂ ms₂ bs₂) (z : variantType m k (typeOf b i t) ≡ typeOf b i s) where
+module _ (r from t base s : ℕ) {b i : List ℕ} {m : ℕ} {v : Checked} {n : ℕ} {m₀ bs m₁ ms₁ bs₁ : List ℕ} {k : ℕ} (g : Going b i v n m₀ bs (armsFrom b i r from m (typeOf b i t) (scopeOf b i bs n base) k (m - k)) m₁ ms₁ bs₁ k m) (h : k < m) {c : Checked} {m₂ ms₂ bs₂ : List ℕ} (d : Stays b i (armOf b i r (from + 2 * k) (typeOf b i s) (scopeOf b i bs₁ n base)) n bs₁ c m₂ ms₂ bs₂) (z : variantType m k (typeOf b i t) ≡ typeOf b i s) where
   abbrev an-arm : Stays b i (armOf b i r (from + 2 * k) (variantType m k (typeOf b i t)) (scopeOf b i bs n base)) n bs₁ c m₂ ms₂ bs₂
   an-arm = stays-of d (ap₂ (armOf b i r (from + 2 * k)) z (sym (stays-scope (g .stays) base)))
 
-  pub arms-again : (j : ℕ) → c ≡ Passed → j ≡ k + 1 → Going b i v n bs (armsFrom b i r from m (typeOf b i t) (scopeOf b i bs n base) j (m - j)) m₂ ms₂ bs₂ j m
+  pub arms-again : (j : ℕ) → c ≡ Passed → j ≡ k + 1 → length m₂ ≡ length m₁ → Going b i v n m₀ bs (armsFrom b i r from m (typeOf b i t) (scopeOf b i bs n base) j (m - j)) m₂ ms₂ bs₂ j m
   arms-again j f e = going-next g an-arm _ (arms-next b i r from m (typeOf b i t) (scopeOf b i bs n base) k j h e) j f h e
 
   pub arms-halt : {w : Refusal} → c ≡ Refused w → Stays b i v n bs (Refused w) m₂ ms₂ bs₂

@@ -8,15 +8,15 @@ use lib.Dec.{eqb}
 use lib.ListN.{length, getD}
 use Rattle.laws.specs.Table.{pick}
 use Rattle.simplicity.specs.Types.{Ty, one, same}
-use Rattle.book.specs.Format.{TYPE, PATTERN, EXPRESSION, SA, EB, EM, EH, CK}
+use Rattle.book.specs.Format.{TYPE, PATTERN, EXPRESSION, FUNCTION, SA, EB, EM, EH, CK}
 use Rattle.book.specs.Index.{mark, field, depth, Lies}
 use Rattle.book.specs.Stands.{Stands}
 use Rattle.book.specs.Valid.{Valid}
 use Rattle.book.specs.Tree.{Stmts, stmtsAt, group, tree, typeOf, patternOf, exprOf}
 use Rattle.parts.specs.Parts.{spanAt}
 use Rattle.shapes.specs.Shapes.{typeIs, hasPlaces}
-use Rattle.binders.specs.Binders.{names, twice, Binding, binding}
-use Rattle.binders.specs.Memos.{Known, Live, scopeOf}
+use Rattle.binders.specs.Binders.{Binding, binding}
+use Rattle.binders.specs.Memos.{Known, patternTwice, paramsTwice, Live, scopeOf}
 use Rattle.typing.specs.Check.{andThen, agree, binds, variantType, check, statements}
 use Rattle.typing.specs.declared.cycle.Checked.{Checked}
 use Rattle.typing.specs.declared.cycle.Checked.the-variants.{Passed}
@@ -27,10 +27,11 @@ pub record Among (b i : List ℕ) (r : ℕ) : Type 0 where
   pub valid : Valid b i records
   pub inside : r < records
 
--- the rows that a judgement is lent: which patterns have a name twice, which pairs are known to fit, which records were searched in vain, and the live bindings, with room for 256 of them at each of 255 depths
+-- the rows that a judgement is lent: which patterns and functions have a name twice, which pairs are known to fit, which records were searched in vain, and the live bindings, with room for 256 of them at each of 255 depths
 pub record Rows (b i ds memo ms bs : List ℕ) : Type 0 where
   pub long : length ds ≡ 4096
-  pub doubled : (r : ℕ) → Stands b i r PATTERN → getD ds r 0 ≡ pick (twice (names (patternOf b i r))) 1 0
+  pub patterns : (r : ℕ) → Stands b i r PATTERN → getD ds r 0 ≡ pick (patternTwice b i r) 1 0
+  pub functions : (r : ℕ) → Stands b i r FUNCTION → getD ds r 0 ≡ pick (paramsTwice b i r) 1 0
   pub known : Known b i memo
   pub missing : length ms ≡ 4096
   pub room : length bs ≡ 130560

@@ -1,5 +1,5 @@
-// The judgement of expressions: parts in lowering order before the whole. All are lent four rows: `doubled` says which patterns have a
-// name twice, `memo` which patterns are known to fit which types, `vain` serves a name's search, and `scope` has the live bindings, a
+// The judgement of expressions: parts in lowering order before the whole. All are lent four rows: `doubled` says which patterns and
+// functions have a name twice, `memo` which patterns are known to fit which types, `vain` serves a name's search, and `scope` has the live bindings, a
 // pattern and a type each, behind the scope's base: a function, or none.
 ghost use mathlib.Core.Path.{_≡_};
 ghost use Prim.Native.Nat.{_<_};
@@ -13,7 +13,6 @@ ghost use Rattle.binders.specs.Memos.{Live, scopeOf};
 ghost use Rattle.typing.specs.Check.{agree, binds, check, checkFun};
 ghost use Rattle.typing.specs.Cycle.{Rows, Scoped, Enough, Stays, Bound, Stated, ArmAt, ArmsAt, Places, partsOf, rowOf, matchOf, armsFrom, armOf, statementOf, blockOf, liveAfter};
 use binders::fits;
-use binders::params_repeat;
 use binders::type_for;
 use book::fault::Fault;
 use book::fault::Refusal;
@@ -425,7 +424,7 @@ pub fn function(
     requires { ⌜ Stands (now book) (now index) f FUNCTION ⌝ ∗ ⌜ Rows (now book) (now index) (now doubled) (now memo) (now vain) (now scope) ⌝ }
     ensures { λ c. ⌜ Stays (now (book .entry)) (now (index .entry)) (checkFun (funOf (now (book .entry)) (now (index .entry)) f)) 0 (now (scope .entry)) c (now (memo .exit)) (now (vain .exit)) (now (scope .exit)) ⌝ }
 {
-    if params_repeat(book, index, f) {
+    if doubled[f as usize] == 1 {
         return Checked::Refused(Refusal {
             fault: Fault::Name,
             place: f,

@@ -4,6 +4,7 @@ ghost use Prim.Native.Nat.{_-_};
 ghost use Rattle.book.specs.Tree.{exprOf};
 ghost use Rattle.book.specs.Valid.{Valid, Tiles};
 ghost use Rattle.binders.specs.Binders.{rootScope};
+ghost use Rattle.binders.specs.Memos.{Known, Doubled};
 ghost use Rattle.typing.specs.Check.{andThen, check};
 ghost use Rattle.typing.specs.Cycle.{Among, Rows, Stays};
 ghost use Rattle.typing.specs.Whole.{inOrder, valueAt, functionAt, checking, checkOf};
@@ -58,10 +59,39 @@ fn records(book: &[u8], index: &[u16], n: u16) -> Checked
     }
     let mut doubled = [0u8; 4096];
     doubles(book, index, n, &mut doubled);
+    if n <= 512 {
+        return few(book, index, n, &doubled);
+    }
+    many(book, index, n, &doubled)
+}
+
+// What follows the values in a small book. All pairs of at most 512 records have their bit in a memo of 8192 words; that none is missing
+// is a matter of speed alone.
+fn few(book: &[u8], index: &[u16], n: u16, doubled: &[u8]) -> Checked
+    requires { ⌜ Valid (now book) (now index) n ⌝ ∗ ⌜ Tiles (now book) (now index) n ⌝ ∗ ⌜ Doubled (now book) (now index) n (now doubled) ⌝ }
+    ensures { λ c. ⌜ c ≡ andThen (inOrder (functionAt (now (book .entry)) (now (index .entry))) 0 n) (check (exprOf (now (book .entry)) (now (index .entry)) (n - 1)) rootScope) ⌝ }
+{
+    let mut memo = [0u32; 8192];
+    scoped(book, index, n, doubled, &mut memo)
+}
+
+// The same in any book, with a memo that is dear to clear.
+fn many(book: &[u8], index: &[u16], n: u16, doubled: &[u8]) -> Checked
+    requires { ⌜ Valid (now book) (now index) n ⌝ ∗ ⌜ Tiles (now book) (now index) n ⌝ ∗ ⌜ Doubled (now book) (now index) n (now doubled) ⌝ }
+    ensures { λ c. ⌜ c ≡ andThen (inOrder (functionAt (now (book .entry)) (now (index .entry))) 0 n) (check (exprOf (now (book .entry)) (now (index .entry)) (n - 1)) rootScope) ⌝ }
+{
     let mut memo = [0u32; 524288];
+    scoped(book, index, n, doubled, &mut memo)
+}
+
+// The functions and the root, with a memo that knows no pair yet.
+fn scoped(book: &[u8], index: &[u16], n: u16, doubled: &[u8], memo: &mut [u32]) -> Checked
+    requires { ⌜ Valid (now book) (now index) n ⌝ ∗ ⌜ Tiles (now book) (now index) n ⌝ ∗ ⌜ Doubled (now book) (now index) n (now doubled) ⌝ ∗ ⌜ Known (now book) (now index) (now memo) ⌝ }
+    ensures { λ c. ⌜ c ≡ andThen (inOrder (functionAt (now (book .entry)) (now (index .entry))) 0 n) (check (exprOf (now (book .entry)) (now (index .entry)) (n - 1)) rootScope) ⌝ }
+{
     let mut vain = [0u8; 4096];
     let mut scope = [0u16; 130560];
-    expressions(book, index, n, &doubled, &mut memo, &mut vain, &mut scope)
+    expressions(book, index, n, doubled, memo, &mut vain, &mut scope)
 }
 
 // The functions, and then the root.

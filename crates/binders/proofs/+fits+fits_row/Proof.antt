@@ -48,7 +48,7 @@ abbrev fits-row-below : ℕ → In 3 fits-row-kinds.ps
 fits-row-below t = and 3 fits-row-kinds.ps (falls 3 fits-row-kinds.ps _<_ μ-fits-row t) fits-row.Pre
 
 abbrev fits-row-Inv-loop : fits-row-lts.InvT-loop
-fits-row-Inv-loop book index p t memo₀ n k₀ memo k = Fitting book index (fits (patternOf book index p) (typeOf book index t)) n (λ j. patternOf book index (field book index p j)) (typeOf book index t) k memo
+fits-row-Inv-loop book index p t memo₀ n k₀ memo k = Fitting book index (fits (patternOf book index p) (typeOf book index t)) n (λ j. patternOf book index (field book index p j)) (typeOf book index t) k memo₀ memo
 
 abbrev fits-row-μ-loop : fits-row-lts.MeasureT-loop
 fits-row-μ-loop book index p t memo₀ n k₀ memo k = n - k
@@ -64,14 +64,14 @@ pub +fits+fits-row-spec : {M : Type 1} → statement M
     (λ t. fits-lts.spec (fits-claims t) (fits-at t) fits-reads.Post
     (λ c κs. search stands-begins)
     (λ c. fitted-other (c .before .before .before .before .before .pre .1 .1 .1) (c .before .before .before .before .before .pre .1 .0) _ (c .before .mark-at .ensures) (c .if1 .taken))
-    (λ c κs. (stands-few (c .before .before .before .before .before .before .pre .1 .0), stands-few (c .before .before .before .before .before .before .pre .1 .1 .0), c .before .before .before .before .before .before .pre .1 .1 .1 .size))
+    (λ c κs. omega (arith, stands-few (c .before .before .before .before .before .before .pre .1 .0)))
     (λ c. search needs)
-    (λ c. fitted-known (c .before .before .before .before .before .before .before .before .pre .1 .1 .1) _ (c .before .before .before .before .before .before .before .before .pre .1 .1 .0) (c .before .known .ensures) (c .if2 .taken))
+    (λ c. fitted-known (c .before .before .before .before .before .before .before .before .pre .1 .1 .1) _ _ (c .before .known .ensures) (c .if2 .taken))
     (λ c κs. (search needs, (c .before .before .before .before .before .before .before .before .before .pre .1 .0, (sym (c .before .before .before .before .before .mark-at .ensures) ∙ c .before .before .before .before .if1 .left, (c .before .before .before .before .before .before .before .before .before .pre .1 .1 .0, c .before .before .before .before .before .before .before .before .before .pre .1 .1 .1)))))
-    (λ c κs. (stands-few (c .before .before .before .before .before .before .before .before .before .before .before .before .before .before .pre .1 .0), stands-few (c .before .before .before .before .before .before .before .before .before .before .before .before .before .before .pre .1 .1 .0), c .before .before .before .before .fits-row .ensures .known .size))
-    (λ c. c .before .before .mark .ensures .kept ∙ c .before .before .before .before .before .before .before .fits-row .ensures .known .size ∙ sym (c .before .before .before .before .before .before .before .before .before .before .before .before .before .before .before .before .before .pre .1 .1 .1 .size))
+    (λ c κs. omega (arith, stands-few (c .before .before .before .before .before .before .before .before .before .before .before .before .before .before .pre .1 .0)))
+    (λ c. search needs)
     (λ c. fitted-marked (c .before .before .before .before .before .before .before .fits-row .ensures) (c .before .before .before .before .if3 .taken) (c .before .before .mark .ensures))
-    (λ c. c .before .before .before .fits-row .ensures .known .size ∙ sym (c .before .before .before .before .before .before .before .before .before .before .before .before .before .pre .1 .1 .1 .size))
+    (λ c. search needs)
     (λ c. rw (c .if3 .left) at (c .before .before .before .fits-row .ensures)))
     (λ t. fits-row-lts.spec (fits-row-claims t) (fits-row-at t) fits-row.Post
     fits-row-Inv-loop
@@ -85,13 +85,13 @@ pub +fits+fits-row-spec : {M : Type 1} → statement M
     (λ c. search needs)
     (λ c κs. search row-lies)
     (λ c κs. (c .before .before .before .before .before .before .before .before .pre .1 .1 .1 .0, (tt, (search needs, c .before .before .loop .inv .few))))
-    (λ c. c .before .before .before .before .loop .inv .known .size ∙ sym (c .before .before .before .before .before .before .before .before .before .before .pre .1 .1 .1 .1 .size))
+    (λ c. search needs)
     (λ c. fitting-nowhere (c .before .before .before .before .loop .inv) (c .before .before .before .loop-test .taken) (c .before .place .ensures) (c .if2 .taken))
     (λ c κs. let part = row-part (c .before .before .before .before .before .before .before .before .before .before .before .pre .1 .0) _ _ _ (c .before .before .before .before .before .before .before .before .before .before .before .pre .1 .1 .0) (c .before .before .before .before .before .before .before .field-at .ensures) (c .before .before .before .before .loop-test .taken) refl _ (c .before .before .before .field-at2 .ensures) in (omega (arith, part .1), (part .0, (gives-stands (c .before .before .place .ensures) (c .before .if2 .left), c .before .before .before .before .before .loop .inv .known))))
-    (λ c. c .before .before .before .fits2 .ensures .known .size ∙ sym (c .before .before .before .before .before .before .before .before .before .before .before .before .before .before .before .pre .1 .1 .1 .1 .size))
+    (λ c. search needs)
     (λ c. fitting-not (c .before .before .before .before .before .before .before .before .before .loop .inv) (c .before .before .before .before .before .before .before .before .loop-test .taken) (c .before .before .before .before .before .before .place .ensures) (c .before .before .before .before .before .if2 .left) (rw (c .before .before .before .before .before .before .before .field-at2 .ensures) at (c .before .before .before .fits2 .ensures)) (not-true _ (c .if3 .taken)))
     (λ c. search needs)
     (λ c. search needs)
-    (λ c. fitting-next (c .before .before .before .before .before .before .before .before .before .loop .inv) (c .before .before .before .before .before .before .before .before .loop-test .taken) (c .before .before .before .before .before .before .place .ensures) (c .before .before .before .before .before .if2 .left) (rw (c .before .before .before .before .before .before .before .field-at2 .ensures) at (c .before .before .before .fits2 .ensures)) (not-false _ (c .if3 .left)) (omega arith))
-    (λ c. c .before .loop .inv .known .size ∙ sym (c .before .before .before .before .before .before .before .pre .1 .1 .1 .1 .size))
+    (λ c. fitting-next (c .before .before .before .before .before .before .before .before .before .loop .inv) (c .before .before .before .before .before .before .before .before .loop-test .taken) (c .before .before .before .before .before .before .place .ensures) (c .before .before .before .before .before .if2 .left) (rw (c .before .before .before .before .before .before .before .field-at2 .ensures) at (c .before .before .before .fits2 .ensures)) (not-false _ (c .if3 .left)) (omega arith) (search needs))
+    (λ c. search needs)
     (λ c. fitting-all (c .before .loop .inv) (omega arith)))

@@ -47,10 +47,10 @@ abbrev note-row-below : ℕ → In 4 note-row-kinds.ps
 note-row-below t = and 4 note-row-kinds.ps (falls 4 note-row-kinds.ps _<_ μ-note-row t) note-row.Pre
 
 abbrev note-row-Inv-loop : note-row-lts.InvT-loop
-note-row-Inv-loop book index p met₀ nameless₀ n any₀ k₀ met nameless any k = Nameless book index nameless × Meets (names (patternOf book index p)) met₀ 1 (λ j. names (patternOf book index (field book index p j))) 1 n k any met
+note-row-Inv-loop book index p met₀ stamp nameless₀ n any₀ k₀ met nameless any k = Nameless book index nameless × Meets stamp (names (patternOf book index p)) met₀ 1 (λ j. names (patternOf book index (field book index p j))) 1 n k any met
 
 abbrev note-row-μ-loop : note-row-lts.MeasureT-loop
-note-row-μ-loop book index p met₀ nameless₀ n any₀ k₀ met nameless any k = n - k
+note-row-μ-loop book index p met₀ stamp nameless₀ n any₀ k₀ met nameless any k = n - k
 
 abbrev note-all-claims : ℕ → note-all-lts.Claims
 note-all-claims t = (mark-at-reads.Asked, mark-at-reads.Learnt, note-row-below t, note-row.Post, field-at-reads.Asked, field-at-reads.Learnt, note-reads.Asked, note-reads.Learnt)
@@ -62,7 +62,7 @@ pub +note-all+note-row-spec : {M : Type 1} → statement M
 +note-all+note-row-spec = close μ-note-all μ-note-row
     (λ t. note-all-lts.spec (note-all-claims t) (note-all-at t) note-all.Post
     (λ c. search nameless-fits)
-    (λ c. record { nameless = search needs; notes = notes-none (c .before .before .before .before .before .before .pre .1 .1 .1 .sound _ (c .if1 .taken)) })
+    (λ c. record { nameless = search needs; notes = notes-none (c .before .before .before .before .before .before .pre .1 .1 .0) (c .before .before .before .before .before .before .pre .1 .1 .1 .sound _ (c .if1 .taken)) })
     (λ c κs. search stands-begins)
     (λ c κs. (search needs, (search needs, (sym (c .before .before .before .mark-at .ensures) ∙ c .before .before .if2 .taken, search needs))))
     (λ c. search needs)
@@ -72,7 +72,7 @@ pub +note-all+note-row-spec : {M : Type 1} → statement M
     (λ c κs. search needs)
     (λ c. search needs)
     (λ c. record { nameless = search needs; notes = rw (names-one (c .before .before .before .before .before .before .before .before .before .before .before .before .before .before .pre .1 .0) _ (sym (c .before .before .before .before .before .before .before .mark-at .ensures) ∙ c .before .before .before .before .before .if3 .taken) (c .before .before .before .before .field-at .ensures)) (c .before .before .note .ensures) })
-    (λ c. record { nameless = search needs; notes = notes-none (names-none (search needs) (λ e. c .before .if2 .left (c .before .before .mark-at .ensures ∙ e)) (λ e. c .if3 .left (c .before .before .mark-at .ensures ∙ e))) }))
+    (λ c. record { nameless = search needs; notes = notes-none (c .before .before .before .before .before .before .before .before .before .pre .1 .1 .0) (names-none (search needs) (λ e. c .before .if2 .left (c .before .before .mark-at .ensures ∙ e)) (λ e. c .if3 .left (c .before .before .mark-at .ensures ∙ e))) }))
     (λ t. note-row-lts.spec (note-row-claims t) (note-row-at t) note-row.Post
     note-row-Inv-loop
     note-row-μ-loop
@@ -91,7 +91,7 @@ pub +note-all+note-row-spec : {M : Type 1} → statement M
     (λ c. search needs)
     (λ c. search needs)
     (λ c. (c .before .before .before .before .before .note-all .ensures .nameless, let one = rw (c .before .before .before .before .before .before .before .before .field-at2 .ensures) at (c .before .before .before .before .before .note-all .ensures .notes) in ⊎-elim (λ w. meets-more (c .before .before .before .before .before .before .before .before .before .before .loop .inv .1) _ (omega arith) (omega arith) one _ (omega arith) (w .1 .given .1) (w .2)) (λ w. meets-same (c .before .before .before .before .before .before .before .before .before .before .loop .inv .1) _ (omega arith) (omega arith) one _ (omega arith) (w .1 .given .1) (w .2)) (c .match .came)))
-    (λ c. c .before .before .loop .inv .1 .kept)
+    (λ c. c .before .before .loop .inv .1 .row .size ∙ sym (c .before .before .before .before .before .before .before .before .pre .1 .1 .1 .0 .size))
     (λ c. search needs)
     (λ c. record { nameless = c .before .before .loop .inv .0; notes = meets-named (c .before .before .loop .inv .1) (omega arith) })
     (λ c. search nameless-fits)

@@ -1,15 +1,13 @@
--- `doubles` meets its contract: the entries of the records before r are right; what is no row has no name twice.
+-- `doubles` meets its contract: the entries of the records before r are right, and no name was met with a stamp greater than r.
 -- Assumes nothing.
 use Prim.Native.Nat.{_-_}
 use mathlib.Core.Logic.{⊎-elim}
 use mathlib.Core.Path.{refl, sym, _∙_}
 use native.Mathlib.Omega.{arith}
 use borrow.Author.Needs.{needs}
-use Rattle.book.proofs.Roles.{record-begins}
 use Rattle.pattern.proofs.Memos.{zero-size}
-use Rattle.binders.specs.Memos.{Nameless}
-use Rattle.binders.proofs.Doubling.{row-stands, Doubling, doubling-none, doubling-all, doubling-once, doubling-other, doubling-twice}
-use Rattle.binders.proofs.Tallies.{nameless-none}
+use Rattle.binders.proofs.Doubling.{stands-self, Doubling, doubling-none, doubling-all, doubling-once, doubling-twice}
+use Rattle.binders.proofs.Tallies.{met-none, nameless-none}
 use Rattle.binders.proofs.doubles.Statement.{statement}
 use Rattle.binders.proofs.doubles.Tie as tie
 
@@ -17,16 +15,16 @@ pub doubles-spec : {M : Type 1} → statement M
 doubles-spec =
     tie.close
     (tie.spec
-    (λ b i n ds₀ ms₀ r₀ ds ms r. Doubling b i n r ds × Nameless b i ms)
-    (λ b i n ds₀ ms₀ r₀ ds ms r. n - r)
-    (λ c. (search doubling-none, nameless-none _ _ _ refl))
-    (λ c κs. search record-begins)
+    (λ book index n doubled₀ met₀ nameless₀ r₀ doubled met nameless r. Doubling book index n r doubled met nameless)
+    (λ book index n doubled₀ met₀ nameless₀ r₀ doubled met nameless r. n - r)
+    (λ c. doubling-none _ _ (c .before .before .before .pre .1) (met-none _ refl) (nameless-none _ _ _ refl))
+    (λ c. sym (c .before .before .loop .inv .row .size))
+    (λ c. sym (c .before .before .before .loop .inv .nameless .size))
+    (λ c κs. (stands-self (c .before .before .before .before .before .before .before .before .pre .0) (c .before .before .before .loop-test .taken), (c .before .before .before .before .loop .inv .row, (c .before .before .before .before .loop .inv .nameless, c .before .before .before .before .loop .inv .doubled))))
     (λ c. search needs)
-    (λ c κs. (search row-stands, c .before .before .before .before .loop .inv .1))
+    (λ c. omega (arith, c .before .before .before .before .before .before .before .before .loop .inv .doubled .size))
     (λ c. search needs)
     (λ c. search needs)
-    (λ c. search needs)
-    (λ c. search needs)
-    (λ c. ⊎-elim (λ w. rw (w .5) (rw (w .6) (doubling-twice (c .before .before .before .loop .inv .0) _ refl (c .before .before .loop-test .taken) (omega (arith, c .before .before .before .loop .inv .0 .size)) (w .2 .ensures .0) (w .4 .taken), w .2 .ensures .1))) (⊎-elim (λ w. rw (w .5) (rw (w .6) (doubling-once (c .before .before .before .loop .inv .0) _ refl (c .before .before .loop-test .taken) (w .2 .ensures .0) (w .4 .left), w .2 .ensures .1))) (λ w. rw (w .1) (rw (w .2) (doubling-other (c .before .before .before .loop .inv .0) _ refl (c .before .before .loop-test .taken) (c .before .before .before .before .before .before .before .pre .0) (c .before .mark-at .ensures) (w .0 .left), c .before .before .before .loop .inv .1)))) (c .if1 .came))
-    (λ c. c .before .loop .inv .0 .size ∙ sym (zero-size 4096 (c .before .before .before .before .before .pre .1)))
-    (λ c. search doubling-all))
+    (λ c. ⊎-elim (λ w. rw (w .1) (doubling-twice (c .before .before .before .before .before .before .before .before .loop .inv) _ refl (c .before .before .before .before .before .before .before .loop-test .taken) (c .before .before .before .doubled-at .ensures) (omega (arith, c .before .before .before .before .before .before .before .before .loop .inv .doubled .size)) (w .0 .taken))) (λ w. rw (w .1) (doubling-once (c .before .before .before .before .before .before .before .before .loop .inv) _ refl (c .before .before .before .before .before .before .before .loop-test .taken) (c .before .before .before .doubled-at .ensures) (w .0 .left))) (c .if1 .came))
+    (λ c. c .before .loop .inv .doubled .size ∙ sym (zero-size 4096 (c .before .before .before .before .before .pre .1)))
+    (λ c. doubling-all (c .before .loop .inv) (c .loop-test .left)))

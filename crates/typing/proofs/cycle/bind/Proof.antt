@@ -1,6 +1,5 @@
 -- `bind` meets its contract: by whether the pattern fits and has a name twice.
 -- Assumes nothing.
-use mathlib.Core.Path.{sym, _∙_}
 use native.Mathlib.Omega.{arith}
 use borrow.Author.Tests.{not-true, not-false}
 use Rattle.typing.proofs.Scopes.{second-fits, wider-length}
@@ -13,10 +12,10 @@ bind-spec =
     tie.close
     (tie.spec
     (λ c κs. (c .before .before .before .before .before .before .before .pre .0, (c .before .before .before .before .before .before .before .pre .1 .0, c .before .before .before .before .before .before .before .pre .1 .1 .0 .rows .known)))
-    (λ c. c .before .before .before .fits2 .ensures .known .size ∙ sym (c .before .before .before .before .before .before .before .before .before .before .before .pre .1 .1 .0 .rows .known .size))
+    (λ c. c .before .before .before .fits2 .kept .1 .1 .1 .1 .0)
     (λ c. bind-unfit (c .before .before .before .before .before .before .before .before .before .before .before .pre .1 .1 .0) _ (c .before .before .before .before .before .before .before .before .before .before .before .pre .0) (c .before .before .before .fits2 .ensures) (not-true _ (c .if1 .taken)))
     (λ c. doubled-long (c .before .before .before .before .before .before .before .before .before .before .before .before .pre .1 .1 .0 .rows) (c .before .before .before .before .before .before .before .before .before .before .before .before .pre .0))
-    (λ c. c .before .before .before .before .before .fits2 .ensures .known .size ∙ sym (c .before .before .before .before .before .before .before .before .before .before .before .before .before .pre .1 .1 .0 .rows .known .size))
+    (λ c. c .before .before .before .before .before .fits2 .kept .1 .1 .1 .1 .0)
     (λ c. bind-twice (c .before .before .before .before .before .before .before .before .before .before .before .before .before .pre .1 .1 .0) _ (c .before .before .before .before .before .before .before .before .before .before .before .before .before .pre .0) (c .before .before .before .before .before .fits2 .ensures) (not-false _ (c .before .before .if1 .left)) (c .if2 .taken))
     (λ c. omega (arith, c .before .before .before .before .before .before .before .before .before .before .before .before .before .pre .1 .1 .1))
     (λ c. omega (arith, c .before .before .before .before .before .before .before .before .before .before .before .before .before .pre .1 .1 .1))
@@ -25,6 +24,6 @@ bind-spec =
     (λ c. omega (arith, c .before .before .before .before .before .before .before .before .before .before .before .before .before .pre .1 .1 .1))
     (λ c. omega (arith, c .before .before .before .before .before .before .before .before .before .before .before .before .before .pre .1 .1 .1))
     (λ c. second-fits (c .before .before .before .before .before .before .before .before .before .before .before .before .before .pre .1 .1 .0) (c .before .before .before .before .before .before .before .before .before .before .before .before .before .pre .1 .1 .1) _ 0)
-    (λ c. c .before .before .before .before .before .fits2 .ensures .known .size ∙ sym (c .before .before .before .before .before .before .before .before .before .before .before .before .before .pre .1 .1 .0 .rows .known .size))
+    (λ c. c .before .before .before .before .before .fits2 .kept .1 .1 .1 .1 .0)
     (λ c. wider-length (c .before .before .before .before .before .before .before .before .before .before .before .before .before .pre .1 .1 .0) (c .before .before .before .before .before .before .before .before .before .before .before .before .before .pre .1 .1 .1) _ _)
     (λ c. bind-passed (c .before .before .before .before .before .before .before .before .before .before .before .before .before .pre .1 .1 .0) _ (c .before .before .before .before .before .before .before .before .before .before .before .before .before .pre .0) (c .before .before .before .before .before .fits2 .ensures) (not-false _ (c .before .before .if1 .left)) (c .if2 .left) (c .before .before .before .before .before .before .before .before .before .before .before .before .before .pre .1 .1 .1) (c .before .before .before .before .before .before .before .before .before .before .before .before .before .pre .1 .0)))
