@@ -3,7 +3,9 @@
  * A book is one program as a row of bytes; docs/BOOK.md says how. LOWER gives the combinators of a book as a table of
  * nodes. RUN runs such a table, with a value of the book for each witness.
  *
- * The functions stand in the static library that `rt staticlib host` writes, which is for Linux on x86-64.
+ * The functions stand in target/staticlib/libhost.a, which `rt staticlib host` proves and writes. It is for Linux on
+ * x86-64, has no data of its own, may be linked into a program or a shared object, and needs memcpy and memset of the C
+ * library. This file needs C11 or C++11. There is no version number: take both from one checkout.
  *
  * Every call answers, whatever its bytes and numbers are, and writes nothing but the table that it is lent last. It
  * keeps nothing for the next call, so threads may call at the same time.
@@ -12,14 +14,19 @@
  *
  * - A pointer and the length after it belong together. The bytes are there for the whole call, and nobody changes them
  *   meanwhile.
- * - Where a length is 0 the pointer is not null. It need not point to anything, since nothing is read or written
- *   there.
+ * - No pointer is null, not even where its length is 0; nothing tests that. With length 0 it need not point to
+ *   anything, since nothing is read or written there.
  * - The table that is written shares no byte with what is read.
  * - The thread has stack enough. LOWER took up to 1,167,360 bytes on the worst books that we know, and 1.25 MB was
  *   always enough. RUN took 61,440 bytes, whatever it was given. docs/PERFORMANCE.md has what was measured.
  *
- * LOWER stores at most 65,535 nodes and ends soon. RUN may take long: a table of some dozen nodes can say more steps
- * than a machine lives to see, and there is no limit on them yet.
+ * Neither call judges types. That RUN gives what the source means is proved for books that CHECK passes: have a book
+ * checked first, by the program checkbook, and keep the bytes that passed. Of any other book RUN's answer is still the
+ * meaning of the combinators in the table.
+ *
+ * LOWER stores at most 65,535 nodes and ends soon. RUN may take long: a table of some dozens of nodes can say more steps
+ * than a machine lives to see. There is no limit on steps and no way to stop a call, so a table that is not known is run
+ * in a process that can be ended.
  */
 #ifndef SIMPLICITYHL_H
 #define SIMPLICITYHL_H
@@ -39,7 +46,8 @@ enum {
     /* The bytes of a node and of a cell: its kind, then two operands of two bytes each, low byte first. An operand
      * that is not used is 0. A table has room for its length over five; odd bytes at its end hold nothing. */
     SIMPLICITYHL_ENTRY = 5,
-    /* No table has room for more nodes or cells than this, however long it is. */
+    /* No table has room for more nodes or cells than this, however long it is. So a table of 327,675 bytes is never too
+     * short: what does not fit there fits in none. A witness list has use for 131,072 bytes, an entry for each name. */
     SIMPLICITYHL_MOST = 65535
 };
 
@@ -63,7 +71,7 @@ enum {
     /* LOWER alone. */
     SIMPLICITYHL_REFUSED_UNDEFINED = 10, /* a variable whose name is not in scope */
     SIMPLICITYHL_REFUSED_ROOM = 11,      /* the table is full; place is the record that needed a node more */
-    SIMPLICITYHL_REFUSED_BINDINGS = 12,  /* more than 256 bindings at once, the input's counted */
+    SIMPLICITYHL_REFUSED_BINDINGS = 12,  /* more than 256 bindings at once, the input's counted; place is what binds */
 
     /* The book's types. Neither call of this file judges them. */
     SIMPLICITYHL_REFUSED_TYPE = 13, /* another type, or another number of arguments, than is declared */

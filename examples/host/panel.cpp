@@ -1,5 +1,5 @@
 // What a vault panel does with the library: it lowers a vault once, runs it for each choice of witnesses, and prints
-// what it would show.
+// what it would show. It does not check the vault's types: that is done before, by checkbook.
 //
 //     panel BOOK BRANCHES [CHOICE WITNESSES]...
 //

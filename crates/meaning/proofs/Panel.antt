@@ -66,18 +66,18 @@ module _ (b ws : List ℕ) (n : ℕ) (checked : checkOf b ≡ checks.Records n) 
       go (inl h) = (λ q. omega arith, λ q. omega arith, λ q. omega arith, λ q. omega arith)
       go (inr h) = (λ q. omega arith, λ q. omega arith, λ q. omega arith, λ q. omega arith)
 
-  -- LOWER with symbols and without, in whatever room, and RUN with whatever cells: the values that come out are equal, and neither fails where the other gives a value
-  module _ (m c k m′ c′ k′ : ℕ) (with : lowerOf b true m ≡ lowers.Nodes c) (without : lowerOf b false m′ ≡ lowers.Nodes c′) where
-    pub symbols-change-no-value : (v u v′ u′ : ℕ) → runOf b ws (lowered.tableOf b true m) c k ≡ answers.Value v u → runOf b ws (lowered.tableOf b false m′) c′ k′ ≡ answers.Value v′ u′
-        → valueAt (ran.tableOf b ws (lowered.tableOf b true m) c k) v ≡ valueAt (ran.tableOf b ws (lowered.tableOf b false m′) c′ k′) v′
+  -- LOWER twice, each with symbols or without, in whatever room, and RUN with whatever cells: the values that come out are equal, and neither fails where the other gives a value
+  module _ (y y′ : Bool) (m c k m′ c′ k′ : ℕ) (one : lowerOf b y m ≡ lowers.Nodes c) (other : lowerOf b y′ m′ ≡ lowers.Nodes c′) where
+    pub symbols-change-no-value : (v u v′ u′ : ℕ) → runOf b ws (lowered.tableOf b y m) c k ≡ answers.Value v u → runOf b ws (lowered.tableOf b y′ m′) c′ k′ ≡ answers.Value v′ u′
+        → valueAt (ran.tableOf b ws (lowered.tableOf b y m) c k) v ≡ valueAt (ran.tableOf b ws (lowered.tableOf b y′ m′) c′ k′) v′
     symbols-change-no-value v u v′ u′ e f =
-        let p = what-you-see-is-what-runs b ws n m c k true checked with supplied reached .value-is v u e in
-        let q = what-you-see-is-what-runs b ws n m′ c′ k′ false checked without supplied reached .value-is v′ u′ f in
+        let p = what-you-see-is-what-runs b ws n m c k y checked one supplied reached .value-is v u e in
+        let q = what-you-see-is-what-runs b ws n m′ c′ k′ y′ checked other supplied reached .value-is v′ u′ f in
         cc (sym p ∙ q)
 
-    pub symbols-change-no-failure : runOf b ws (lowered.tableOf b true m) c k ≡ answers.Failed → (v u : ℕ) → runOf b ws (lowered.tableOf b false m′) c′ k′ ≡ answers.Value v u → ⊥
+    pub symbols-change-no-failure : runOf b ws (lowered.tableOf b y m) c k ≡ answers.Failed → (v u : ℕ) → runOf b ws (lowered.tableOf b y′ m′) c′ k′ ≡ answers.Value v u → ⊥
     symbols-change-no-failure e v u f =
-        let p = what-you-see-is-what-runs b ws n m c k true checked with supplied reached .failed-is e in
-        let q = what-you-see-is-what-runs b ws n m′ c′ k′ false checked without supplied reached .value-is v u f in
+        let p = what-you-see-is-what-runs b ws n m c k y checked one supplied reached .failed-is e in
+        let q = what-you-see-is-what-runs b ws n m′ c′ k′ y′ checked other supplied reached .value-is v u f in
         let z = ap wayOf (sym p ∙ q) in
         omega arith
