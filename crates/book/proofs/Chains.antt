@@ -1,6 +1,6 @@
--- Chains of types that share a key: alike types have one chain, so a walk along it finds what is alike; and a type that joins a chain leaves every other in its own.
+-- Chains of types: alike types have one chain, so a walk along it finds what is alike.
 -- Assumes nothing.
-use Prim.Native.Nat.{ℕ, zero, suc, _+_, _*_, _-_, _%_, _≤_, _<_}
+use Prim.Native.Nat.{ℕ, _+_, _*_, _-_, _%_, _≤_, _<_}
 use mathlib.Core.Bool.{Bool, true, false}
 use mathlib.Core.List.{List}
 use mathlib.Core.Path.{_≡_, refl, sym, _∙_}
@@ -9,22 +9,18 @@ use native.Mathlib.Nat.{mod-lt}
 use native.Mathlib.Omega.{arith}
 use borrow.Author.Tests.{eqb-true, eq-eqb, ne-eqb}
 use lib.Dec.{eqb}
-use lib.ListN.{length, getD, set, replicate, length-set, length-replicate}
-use lib.Seq.{getD-set-same, getD-set-other}
+use lib.ListN.{getD}
 use Rattle.laws.specs.Table.{pick, below, some, true-false}
 use Rattle.book.specs.Format.{wordAt, kindOf, TYPE, TU}
 use Rattle.book.specs.Read.{markAt, kindAt, totalAt, fieldAt, endAt, alike, repeats}
-use Rattle.book.specs.Ready.{Framed, Rows, chainOf, Reaches, here, later, Chained, joined}
+use Rattle.book.specs.Ready.{Framed, Rows, chainOf, Reaches, here, later, Chained}
 use Rattle.book.proofs.Alikes.{two-fields, first-field, second-field, repeats-some}
-use Rattle.book.proofs.Course.{zeros}
-use Rattle.book.proofs.Extends.{Extends, extends}
 use Rattle.book.proofs.Frames.{field-within}
-use Rattle.book.proofs.Judging.{up-to}
 use Rattle.book.proofs.Picks.{both-true, not-true}
-use Rattle.book.proofs.Unlike.{marks-same, kinds-same, some-false}
+use Rattle.book.proofs.Unlike.{letters-same, marks-same, kinds-same, none-some, some-false}
 
 -- an entry behind those of the records
-abbrev Behind : ℕ → Type 0
+abbrev pub Behind : ℕ → Type 0
 Behind n = (4096 ≤ n) × (n < 5120)
 
 module _ (b : List ℕ) (p : ℕ) where
@@ -67,12 +63,7 @@ module _ (b : List ℕ) (p : ℕ) where
       pub two-within : kindOf m ≡ TYPE → p + 6 ≤ endAt b p
       two-within k = let t = two-fields b p m is k n in omega (arith, field-within b p 1 (rw t (omega arith)))
 
--- alike types have the same letters
-letters : (b : List ℕ) (p q : ℕ) → alike b p q ≡ true → wordAt b p ≡ wordAt b q
-unfolding alike
-letters b p q a = eqb-true _ _ (both-true _ _ a .0)
-
--- and the same fields
+-- alike types have the same fields
 same-fields : (b : List ℕ) (p q : ℕ) → alike b p q ≡ true → totalAt b p ≡ 2 → (fieldAt b p 0 ≡ fieldAt b q 0) × (fieldAt b p 1 ≡ fieldAt b q 1)
 unfolding alike
 same-fields b p q a t =
@@ -86,7 +77,7 @@ unfolding kindAt
 chain-alike b p q k a = go (ℕ-discrete (markAt b p) TU)
   where
     m : markAt b p ≡ markAt b q
-    m = marks-same b p q (letters b p q a)
+    m = marks-same b p q (letters-same b p q a)
 
     go : Dec (markAt b p ≡ TU) → chainOf b p ≡ chainOf b q
     go (yes u) = sym (chain-none b p u) ∙ chain-none b q (sym m ∙ u)
@@ -98,13 +89,11 @@ chain-alike b p q k a = go (ℕ-discrete (markAt b p) TU)
 
 -- a test that passes somewhere below n
 some-at : (f : ℕ → Bool) (n k : ℕ) → k < n → f k ≡ true → some f n ≡ true
-some-at f zero k h e = absurd (omega arith)
-some-at f (suc n) k h e = go (f n) refl (ℕ-discrete k n) (λ z. some-at f n k (omega arith) e)
+some-at f n k h e = go (some f n) refl
   where
-    go : (t : Bool) → f n ≡ t → Dec (k ≡ n) → ((k ≡ n → ⊥) → some f n ≡ true) → pick t true (some f n) ≡ true
-    go true q d g = refl
-    go false q (yes z) g = absurd (true-false (sym e ∙ rw z q))
-    go false q (no z) g = g z
+    go : (t : Bool) → some f n ≡ t → some f n ≡ true
+    go true q = q
+    go false q = absurd (true-false (sym e ∙ none-some f n q k h))
 
 -- no chain goes on at 0, and one that goes on at n comes to the record before n or goes on from its entry
 ends : (cs : List ℕ) (j n : ℕ) → n ≡ 0 → Reaches cs j n → ⊥
@@ -137,7 +126,7 @@ walk-start {b} {i} {cs} {r} {p} {m} w c f is k h e =
       mark = is;
       kind = k;
       within = rw e (c .heads (chainOf b p) (chain-within b p .0) (chain-within b p .1));
-      ahead = λ j l a. rw (e, chain-alike b p (getD i j 0) t a) (c .reached j l (sym (kinds-same b p (getD i j 0) (letters b p (getD i j 0) a)) ∙ t));
+      ahead = λ j l a. rw (e, chain-alike b p (getD i j 0) t a) (c .reached j l (sym (kinds-same b p (getD i j 0) (letters-same b p (getD i j 0) a)) ∙ t));
     }
 
 module _ {b i cs : List ℕ} {r p m n : ℕ} (g : Walk b i cs r p m n) where
@@ -167,107 +156,3 @@ module _ {b i cs : List ℕ} {r p m n : ℕ} (g : Walk b i cs r p m n) where
       within = omega (arith, walk-falls, g .within);
       ahead = λ j l a. goes cs j n (λ z. true-false (sym a ∙ rw z e)) (g .ahead j l a);
     }
-
--- before the first record every chain is empty
-pub chained-start : (b i : List ℕ) → Chained b i (replicate 5120 0) 0
-chained-start b i = record {
-  long = length-replicate {A = ℕ} 5120 0;
-  falls = λ j h. rw (zeros 5120 j) (omega arith);
-  heads = λ h l o. rw (zeros 5120 h) (omega arith);
-  reached = λ j h. absurd (omega arith);
-}
-
--- what a chain passes stays where the entries below r do
-stays : (cs ds : List ℕ) (r j n : ℕ) → ((k : ℕ) → k < r → getD ds k 0 ≡ getD cs k 0) → ((k : ℕ) → k < r → getD cs k 0 ≤ k) → n ≤ r → Reaches cs j n → Reaches ds j n
-stays cs ds r j n same f h (here e) = here e
-stays cs ds r j n same f h (later o w) =
-    let e = same (n - 1) (omega arith) in
-    let l = f (n - 1) (omega arith) in
-    later o (rw e (stays cs ds r j (getD cs (n - 1) 0) same f (omega arith) w))
-
-module _ (b i cs : List ℕ) (r p : ℕ) (w : Rows b i r) (c : Chained b i cs r) (l : r < 4096) where
-  x : Extends i (set i r p) r p
-  x = extends i r p (omega (arith, w .indexed))
-
-  -- a record that is no type leaves the chains as they are
-  other-joins : (kindAt b p ≡ TYPE → ⊥) → Chained b (set i r p) cs (r + 1)
-  other-joins n = record {
-    long = c .long;
-    falls = c .falls;
-    heads = λ h o q. omega (arith, c .heads h o q);
-    reached =
-        up-to (λ j. kindAt b (getD (set i r p) j 0) ≡ TYPE → Reaches cs j (getD cs (chainOf b (getD (set i r p) j 0)) 0)) r
-        (λ j h. rw (x .before j h) (c .reached j h))
-        (rw (x .new) (λ k. absurd (n k)));
-  }
-
-  -- a type becomes the newest of its chain
-  abbrev chain : ℕ
-  chain = chainOf b p
-
-  abbrev ds : List ℕ
-  ds = set (set cs r (getD cs chain 0)) chain (r + 1)
-
-  length-ds : length ds ≡ 5120
-  length-ds = simp length-set (c .long)
-
-  head-is : getD ds chain 0 ≡ r + 1
-  head-is = getD-set-same (set cs r (getD cs chain 0)) chain (r + 1) 0 (simp length-set (omega (arith, c .long, chain-within b p .1)))
-
-  entry-is : getD ds r 0 ≡ getD cs chain 0
-  entry-is = getD-set-other (set cs r (getD cs chain 0)) chain r (r + 1) 0 (omega (arith, chain-within b p .0)) ∙ getD-set-same cs r (getD cs chain 0) 0 (omega (arith, c .long))
-
-  others-are : (k : ℕ) → (k ≡ chain → ⊥) → (k ≡ r → ⊥) → getD ds k 0 ≡ getD cs k 0
-  others-are k n z = getD-set-other (set cs r (getD cs chain 0)) chain k (r + 1) 0 n ∙ getD-set-other cs r k (getD cs chain 0) 0 z
-
-  low : (k : ℕ) → k < r → getD ds k 0 ≡ getD cs k 0
-  low k h = others-are k (omega (arith, chain-within b p .0)) (omega arith)
-
-  keeps : (j n : ℕ) → n ≤ r → Reaches cs j n → Reaches ds j n
-  keeps j n = stays cs ds r j n low (λ k h. c .falls k (omega arith))
-
-  falls-on : (j : ℕ) → j < 4096 → Dec (j ≡ r) → getD ds j 0 ≤ j
-  falls-on j h (yes z) = rw (z, entry-is) (c .heads chain (chain-within b p .0) (chain-within b p .1))
-  falls-on j h (no z) = rw (others-are j (omega (arith, chain-within b p .0)) z) (c .falls j h)
-
-  heads-on : (h : ℕ) → 4096 ≤ h → h < 5120 → Dec (h ≡ chain) → getD ds h 0 ≤ r + 1
-  heads-on h o q (yes z) = rw (z, head-is) (omega arith)
-  heads-on h o q (no z) = rw (others-are h z (omega arith)) (omega (arith, c .heads h o q))
-
-  -- an earlier type's chain begins where it did, or with the new one, that leads on to what was there
-  reached-on : (j h : ℕ) → Behind h → Reaches cs j (getD cs h 0) → Dec (h ≡ chain) → Reaches ds j (getD ds h 0)
-  reached-on j h o g (yes z) =
-      let w : Reaches cs j (getD cs chain 0) = rw z at g in
-      let q : r + 1 - 1 ≡ r = omega arith in
-      rw (z, head-is) (later {n = r + 1} (omega arith) (rw (q, entry-is) (keeps j _ (c .heads chain (chain-within b p .0) (chain-within b p .1)) w)))
-  reached-on j h o g (no z) = rw (others-are h z (omega (arith, o .0))) (keeps j _ (c .heads h (o .0) (o .1)) g)
-
-  type-joins : Chained b (set i r p) ds (r + 1)
-  type-joins = record {
-    long = length-ds;
-    falls = λ j h. falls-on j h (ℕ-discrete j r);
-    heads = λ h o q. heads-on h o q (ℕ-discrete h chain);
-    reached =
-        up-to (λ j. kindAt b (getD (set i r p) j 0) ≡ TYPE → Reaches ds j (getD ds (chainOf b (getD (set i r p) j 0)) 0)) r
-        (λ j h. rw (x .before j h) (λ k. reached-on j _ (chain-within b (getD i j 0)) (c .reached j h k) (ℕ-discrete _ chain)))
-        (rw (x .new, head-is) (λ k. here refl));
-  }
-
-  -- so the chains hold the new record too
-  pub joins : Chained b (set i r p) (joined b cs r p) (r + 1)
-  unfolding joined
-  joins = go (ℕ-discrete (kindAt b p) TYPE)
-    where
-      go : Dec (kindAt b p ≡ TYPE) → Chained b (set i r p) (joined b cs r p) (r + 1)
-      go (yes k) = rw (eq-eqb (kindAt b p) TYPE k) type-joins
-      go (no n) = rw (ne-eqb (kindAt b p) TYPE n) (other-joins n)
-
--- what the code leaves of the chains, by the mark
-module _ (b cs : List ℕ) (r p m : ℕ) (is : m ≡ markAt b p) where
-  pub joined-not : (kindOf m ≡ TYPE → ⊥) → cs ≡ joined b cs r p
-  unfolding joined kindAt
-  joined-not n = rw (← is, ne-eqb (kindOf m) TYPE n)
-
-  pub joined-type : kindOf m ≡ TYPE → (c : ℕ) → c ≡ chainOf b p → set (set cs r (getD cs c 0)) c (r + 1) ≡ joined b cs r p
-  unfolding joined kindAt
-  joined-type k c e = rw (e, ← is, eq-eqb (kindOf m) TYPE k)

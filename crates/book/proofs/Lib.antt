@@ -10,6 +10,7 @@ pub mod Extends
 pub mod Fields
 mod Frames
 mod Going
+mod Joins
 pub mod Judging
 mod Kept
 mod Layouts

@@ -31,6 +31,11 @@ below-swap : (f g : ℕ → ℕ) (n : ℕ) → below (λ k. eqb (f k) (g k)) n �
 below-swap f g zero = refl
 below-swap f g (suc n) = rw (eqb-swap (f n) (g n), below-swap f g n)
 
+-- alike records have the same letters
+pub letters-same : (b : List ℕ) (p q : ℕ) → alike b p q ≡ true → wordAt b p ≡ wordAt b q
+unfolding alike
+letters-same b p q a = eqb-true _ _ (both-true _ _ a .0)
+
 module _ (b : List ℕ) (p q : ℕ) (e : wordAt b p ≡ wordAt b q) where
   -- the same letters are the same mark
   pub marks-same : markAt b p ≡ markAt b q
@@ -64,7 +69,7 @@ abbrev pub Unlike : List ℕ → List ℕ → ℕ → Type 0
 Unlike b i n = (r s : ℕ) → s < r → r < n → kind b i r ≡ TYPE → alike b (getD i r 0) (getD i s 0) ≡ false
 
 -- no test below n holds, both ways
-none-some : (f : ℕ → Bool) (n : ℕ) → some f n ≡ false → (j : ℕ) → j < n → f j ≡ false
+pub none-some : (f : ℕ → Bool) (n : ℕ) → some f n ≡ false → (j : ℕ) → j < n → f j ≡ false
 none-some f zero e j h = absurd (omega arith)
 none-some f (suc n) e j h =
     let w = second _ _ _ _ true-false e in
@@ -88,11 +93,10 @@ unlike-next b i j n p x f u r s l h = ⊎-elim
 
 -- no two types are alike
 pub unlike-all : (b i : List ℕ) (n : ℕ) → Unlike b i n → (r s : ℕ) → r < n → s < n → kind b i r ≡ TYPE → alike b (getD i r 0) (getD i s 0) ≡ true → r ≡ s
-unfolding alike
 unlike-all b i n u r s h l e a = go (ℕ-discrete r s) (decLt s r)
   where
     w : wordAt b (getD i r 0) ≡ wordAt b (getD i s 0)
-    w = eqb-true _ _ (both-true _ _ a .0)
+    w = letters-same b (getD i r 0) (getD i s 0) a
 
     go : Dec (r ≡ s) → Dec (s < r) → r ≡ s
     go (yes z) q = z

@@ -1,8 +1,8 @@
 -- `read::index_book` meets its contract: SIZE, then record by record.
 -- Assumes nothing.
-use Rattle.book.proofs.Chains.{chained-start}
 use Rattle.book.proofs.Course.{ready-start}
 use Rattle.book.proofs.Going.{sized-is, unsized-answers, records-answer, refusal-answers}
+use Rattle.book.proofs.Joins.{chained-start}
 use Rattle.book.specs.Read.{sized}
 use borrow.Author.Needs.{needs}
 use borrow.Author.Tests.{not-true, not-false}

@@ -1,6 +1,6 @@
 -- `read::join_chain` meets its contract: no type, or a type and what was the newest before it.
 -- Assumes nothing.
-use Rattle.book.proofs.Chains.{joined-not, joined-type}
+use Rattle.book.proofs.Joins.{joined-not, joined-type}
 use borrow.Author.Needs.{needs}
 use mathlib.Core.Path.{sym, _∙_}
 use Rattle.book.proofs.read.join_chain.Statement.{statement}

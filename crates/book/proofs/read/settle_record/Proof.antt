@@ -1,8 +1,8 @@
 -- `read::settle_record` meets its contract: each way by its law.
 -- Assumes nothing.
-use Rattle.book.proofs.Chains.{joins}
 use Rattle.book.proofs.Endings.{settle-twice, settle-deep, settle-on}
 use Rattle.book.proofs.Frames.{mark-within}
+use Rattle.book.proofs.Joins.{joins}
 use borrow.Author.Needs.{needs}
 use mathlib.Core.Path.{sym, _∙_}
 use native.Mathlib.Omega.{arith}
