@@ -28,7 +28,7 @@ use shapes::part::NONE;
 use shapes::part::is_unit;
 use shapes::part::place;
 
-// How many words of the memo a pattern has: a bit for each type that there may be, where the memo is that of a small book or of a large.
+// How many words of the memo a pattern has: a bit for each type that there may be, in a small book or in a large one.
 fn width_of(length: usize) -> usize
     ensures { λ w. ⌜ w ≡ widthOf length ⌝ }
 {

@@ -57,7 +57,7 @@ use scope_bindings::from_root;
 use scope_bindings::get;
 use scope_bindings::insert;
 
-// The expression of record r, in a scope.
+// The expression of record r, in a scope that is lent: its row, and how many of its entries are bindings.
 pub fn expression(
     book: &[u8],
     index: &[u16],

@@ -117,8 +117,8 @@ pub fn get_param(
     Sought::Missing
 }
 
-// Searches a pattern that nests no row in a row, as most do. Each of its places is one record, so nothing need be remembered, and no
-// row has to be cleared first: to clear one for each name was most of what a variable cost.
+// Searches a pattern that nests no row in a row, as most do. Each of its places is one field, so nothing need be remembered, and no row
+// has to be cleared for each name.
 pub fn get_shallow(
     book: &[u8],
     index: &[u16],
