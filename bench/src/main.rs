@@ -83,16 +83,10 @@ fn compare(given: &Given, call: Call) -> Seen {
     }
 }
 
-/// How long a call in Rattle takes: the middle of a few.
-fn alone(given: &Given, call: Call) -> f64 {
-    let mut mine = table();
-    let n = times(|| call.ours(given, &mut mine));
-    spread(
-        (0..5)
-            .map(|_| time(n, || call.ours(given, &mut mine)))
-            .collect(),
-    )
-    .0
+/// How long a call takes: the middle of a few.
+fn alone(mut call: impl FnMut() -> Answer) -> f64 {
+    let n = times(&mut call);
+    spread((0..5).map(|_| time(n, &mut call)).collect()).0
 }
 
 fn names() -> [&'static str; 4] {
@@ -182,7 +176,8 @@ fn growth(folder: &Path) {
         let mut points = Vec::new();
         for size in sizes {
             let given = Given::new(label, make(size));
-            let times = CALLS.map(|call| alone(&given, call));
+            let mut mine = table();
+            let times = CALLS.map(|call| alone(|| call.ours(&given, &mut mine)));
             let mut cells = vec![
                 label.to_string(),
                 size.to_string(),
@@ -198,13 +193,16 @@ fn growth(folder: &Path) {
     draw(folder, "growth.svg", chart::growth(names(), &all));
 }
 
-/// The dearest books that are known.
+/// The dearest books that are known, and what the model takes for them.
 fn worst() {
     head(&["book", "bytes"], &names());
     for given in worst::all() {
+        let mut lent = table();
         let cell = |call: Call| {
-            let answer = call.ours(&given, &mut table());
-            format!("{}: {}", tell(answer), micros(alone(&given, call)))
+            let answer = call.ours(&given, &mut lent);
+            let ours = alone(|| call.ours(&given, &mut lent));
+            let models = alone(|| call.models(&given, &mut lent));
+            format!("{}: {} / {}", tell(answer), micros(ours), micros(models))
         };
         let mut cells = vec![given.label.clone(), given.book.len().to_string()];
         cells.extend(CALLS.map(cell));

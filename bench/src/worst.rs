@@ -1,5 +1,6 @@
-//! Books that drive each search of READ, CHECK and LOWER as far as 65,535 bytes
-//! and 4,096 records allow. What is dear of a book is said beside it.
+//! Books that drive each search of READ, CHECK and LOWER, and LOWER's recursion,
+//! as far as 65,535 bytes, 4,096 records and 65,535 nodes allow. What is dear of
+//! a book is said beside it.
 
 use gen::writer::{Id, Writer};
 use gen::Case;
@@ -152,6 +153,20 @@ fn one_chain() -> Case {
     Case::plain(String::new(), &writer)
 }
 
+/// Functions that call the one before twice, the first of which holds two
+/// constants: LOWER does little but enter and leave its own functions.
+fn bare_calls() -> Case {
+    let mut writer = Writer::new();
+    let constants = [5, 6].map(|number| writer.word_constant(8, number));
+    let mut body = writer.tuple_expression(&constants);
+    for _ in 0..13 {
+        let (ty, function) = (writer.ty(body), writer.function(&[], body));
+        let calls = [(); 2].map(|()| writer.record("cf", &[ty, function, 0]));
+        body = writer.tuple_expression(&calls);
+    }
+    Case::plain(String::new(), &writer)
+}
+
 /// All of them.
 pub fn all() -> Vec<Given> {
     [
@@ -165,6 +180,10 @@ pub fn all() -> Vec<Given> {
         ("rows of 24 against types, many pairs", pairs()),
         ("rows without a name", nameless_rows()),
         ("rows with a name each, 250 deep", named_rows()),
+        (
+            "16,383 calls of functions that hold nothing else",
+            bare_calls(),
+        ),
     ]
     .map(|(label, case)| Given::new(label, case))
     .into()

@@ -56,9 +56,10 @@ const CHECKED: usize = 5_000;
 const TABLES: usize = 5_000;
 const FAILURES: usize = 200;
 
-/// How many inputs at random are tried before their ends are counted; so many
-/// meet every refusal.
-const CHUNK: usize = 20_000;
+/// So many inputs at random meet every refusal; and how many are tried before
+/// the first that differs is told.
+const MANY: usize = 20_000;
+const BATCH: usize = 1_000;
 
 /// Of how many books of each sort `lowerbook`'s listing is compared: it is
 /// started afresh for each.
@@ -302,17 +303,17 @@ fn fuzz(some: usize, from: usize, service: &str, start: &Start) -> Result<(), St
     let service = Service::new(start, service)?;
     let (mut tally, mut done) = (fuzz::Tally::default(), 0);
     while done < some {
-        let few = CHUNK.min(some - done);
+        let few = BATCH.min(some - done);
         let number = |k: usize| (from + done + k) as u64;
         for ends in work::each(few, |k| fuzz::agrees(&service, number(k))) {
             tally.add(&ends?);
         }
         done += few;
-        if some > CHUNK {
+        if some > MANY && done % MANY == 0 {
             eprintln!("judge: {done} inputs");
         }
     }
-    let lines = tally.lines(some >= CHUNK)?;
+    let lines = tally.lines(some >= MANY)?;
     let calls = service.calls();
     say(&format!(
         "READ, CHECK, LOWER and RUN in Rattle are the model's on {some} inputs at random from {from} on, in {} calls; a call takes {} microseconds, the longest {} ms; how they ended, by number:",
