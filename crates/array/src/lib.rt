@@ -1,4 +1,6 @@
 // Balanced trees: the split of a row's length, and the place of a number's top one bit.
+#![tactic(auto)]
+
 ghost use Rattle.std.specs.Prelude.{◌≡◌, ◌<◌, ◌≤◌};
 ghost use Rattle.array.specs.Split.{Split, top_of};
 

@@ -1,5 +1,7 @@
 // Patterns beside types. Patterns share their parts, so that a pattern may have more places than could ever be visited: no record is
 // entered again for what is known of it.
+#![tactic(auto)]
+
 ghost use Rattle.std.specs.Prelude.{[], ◌∷◌, ◌≡◌, false, ◌+◌, ◌<◌, length, replicate};
 ghost use Rattle.std.proofs.Math.Option.{none};
 ghost use Rattle.book.specs.Format.{TYPE, PATTERN, FUNCTION, PT};
@@ -113,7 +115,7 @@ fn fits_row(book: &[u8], index: &[u16], p: u16, t: u16, memo: &mut [u32]) -> boo
 }
 
 // What meeting a pattern's names came to: one was met before, or it has names, all new, or it has none.
-#[derive(Drop)]
+#[derive(Clone, Copy)]
 pub enum Noted {
     Twice,
     Named,

@@ -4,7 +4,7 @@ ghost use Rattle.book.specs.Faults.{fault_number, numbers_of};
 
 // What was wrong: document 01, Refusals by number, in its order. TYPE is `Ty`, since `Type` is a word of
 // the language of the proofs.
-#[derive(Drop)]
+#[derive(Clone, Copy)]
 pub enum Fault {
     Size,
     Records,
@@ -29,14 +29,14 @@ pub enum Fault {
 }
 
 // What was wrong, and where.
-#[derive(Drop)]
+#[derive(Clone, Copy)]
 pub struct Refusal {
     pub fault: Fault,
     pub place: u16,
 }
 
 // READ's answer: how many records there are, or a refusal.
-#[derive(Drop)]
+#[derive(Clone, Copy)]
 pub enum ReadAnswer {
     Records(u16),
     Refused(Refusal),
@@ -71,7 +71,7 @@ pub fn fault_number(fault: Fault) -> u8
 }
 
 // An answer as document 01 gives it: number, place and count.
-#[derive(Drop)]
+#[derive(Clone, Copy)]
 pub struct Numbers {
     pub number: u8,
     pub place: u16,

@@ -175,7 +175,7 @@ pub fn kind_of(mark: u8) -> u8
 
 // The roles of a record's fields: `heads` of them, then a group of `eachs` as often as the last of
 // the head says, then one more unless `last` is 0.
-#[derive(Drop)]
+#[derive(Clone, Copy)]
 pub struct Layout {
     pub heads: usize,
     pub head: [u8; 6],

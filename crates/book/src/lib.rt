@@ -1,4 +1,6 @@
 // The book: its format, READ, the index of its records, and reading a field.
+#![tactic(auto)]
+
 pub mod fault;
 pub mod format;
 pub mod read;

@@ -12,28 +12,28 @@ use crate::format::{
 use crate::word::word;
 
 // A record's mark, how often its group stands, and where it ends; or why there is none.
-#[derive(Drop)]
+#[derive(Clone, Copy)]
 pub enum Frame {
     Of { mark: u8, count: usize, end: usize },
     Bad(Fault),
 }
 
 // The depth of the deepest record named so far; or why a field is refused.
-#[derive(Drop)]
+#[derive(Clone, Copy)]
 pub enum Judged {
     Good(u8),
     Bad(Fault),
 }
 
 // Where the next record begins; or why this one is refused.
-#[derive(Drop)]
+#[derive(Clone, Copy)]
 pub enum Next {
     At(usize),
     Bad(Fault),
 }
 
 // READ's answer, and where each record begins.
-#[derive(Drop)]
+#[derive(Clone, Copy)]
 pub struct Indexed {
     pub answer: ReadAnswer,
     pub index: [u16; 4096],

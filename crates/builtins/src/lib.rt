@@ -1,2 +1,4 @@
+#![tactic(auto)]
+
 pub mod array_fold;
 pub mod raw_hash;

@@ -10,21 +10,21 @@ use crate::table::{Kept, LEFT, PAIR, RIGHT, UNIT, from, keep, kind_at, left_at, 
 use jet::jet_at;
 
 // A word's number, or that a cell is no such word.
-#[derive(Drop)]
+#[derive(Clone, Copy)]
 pub enum Word {
     Of(u8),
     Not,
 }
 
 // Two words' numbers, or that a cell is no such pair.
-#[derive(Drop)]
+#[derive(Clone, Copy)]
 pub enum Words {
     Of(u8, u8),
     Not,
 }
 
 // What a jet comes to: its cells, a failure, a value of another shape, or that it is not known.
-#[derive(Drop)]
+#[derive(Clone, Copy)]
 pub enum Jetted {
     Made(Kept),
     Failed,

@@ -18,7 +18,7 @@ pub const PAIR: u8 = 4;
 
 // The cell that was stored last, how many there are, and whether one did not fit. Once full nothing is stored, so that a jet need not
 // ask after each of its cells.
-#[derive(Drop)]
+#[derive(Clone, Copy)]
 pub struct Kept {
     pub cell: u16,
     pub used: u16,

@@ -1,6 +1,8 @@
 // Runs CHECK on a stream of vectors, and prints how many there were and which answers were wrong.
 // A vector: the expected number (one byte), place and count (two bytes each, low first), the book's
 // length (three bytes, low first), and the book.
+#![tactic(auto)]
+
 use book::fault::fault_number;
 use libc::STDIN_FILENO;
 use typing::CheckAnswer;

@@ -1,4 +1,6 @@
 // Checks a book on standard input, and prints how many records it has, or its refusal.
+#![tactic(auto)]
+
 use libc::STDIN_FILENO;
 use typing::CheckAnswer;
 

@@ -1,4 +1,6 @@
 // The lowering of books: the original's compile.
+#![tactic(auto)]
+
 ghost use Rattle.std.specs.Prelude.{◌≡◌, length, replicate};
 ghost use Rattle.named.specs.Cut.{cut, room};
 ghost use Rattle.book.specs.Format.{EXPRESSION};
@@ -15,7 +17,7 @@ use scope_bindings::{IGNORED, from_root};
 mod cycle;
 
 // LOWER's answer: how many nodes were stored, or a refusal.
-#[derive(Drop)]
+#[derive(Clone, Copy)]
 pub enum LowerAnswer {
     Nodes(u16),
     Refused(Refusal),

@@ -1,4 +1,6 @@
 // What the programs print: a count, or a refusal.
+#![tactic(auto)]
+
 use book::fault::{Refusal, fault_number};
 use libc::STDOUT_FILENO;
 

@@ -1,4 +1,6 @@
 // What the plug-in's host calls: two functions on byte slices and numbers, thin over LOWER and RUN.
+#![tactic(auto)]
+
 ghost use Rattle.std.specs.Prelude.{◌≡◌, length};
 ghost use Rattle.compile.specs.Whole.{lower_of, table_of};
 ghost use Rattle.run.specs.Whole.{run_of, table_of as cells_of};
@@ -10,7 +12,7 @@ use run::{RunAnswer, run};
 
 // LOWER's answer in numbers: a success is number 0 at place 0 with its count of nodes; a refusal has count 0.
 #[repr(C)]
-#[derive(Drop)]
+#[derive(Clone, Copy)]
 pub struct LowerOutcome {
     pub number: u32,
     pub place: u32,
@@ -47,7 +49,7 @@ fn outcome_of(answer: LowerAnswer) -> LowerOutcome
 
 // RUN's answer in numbers: a value has the number of cells and its own cell; FAILED is number 0 with count 0.
 #[repr(C)]
-#[derive(Drop)]
+#[derive(Clone, Copy)]
 pub struct RunOutcome {
     pub number: u32,
     pub place: u32,

@@ -1,9 +1,11 @@
 // The constant table of jets, and the choice of a hash add by the width of its word.
+#![tactic(auto)]
+
 ghost use Rattle.std.specs.Prelude.{◌≡◌, ◌<◌};
 ghost use Rattle.jet.specs.Jets.{jet_of, add_of, Adds};
 
 // The number of arguments in the source, and the bit widths of the input and the output type.
-#[derive(Drop)]
+#[derive(Clone, Copy)]
 pub struct Jet {
     pub arguments: u16,
     pub input: u16,

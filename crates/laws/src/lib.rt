@@ -1,1 +1,2 @@
 // Definitions and laws on tables, rows and numbers that several crates cite. No function.
+#![tactic(auto)]

@@ -2,6 +2,8 @@
 // A vector: whether symbols are asked for (one byte), the expected number (one byte), place and count (two bytes each), the lengths
 // of the table, of the book and of the nodes (three bytes each), the book, and the nodes, with which the table must begin. What
 // follows the counted nodes must be zero. Numbers are low byte first.
+#![tactic(auto)]
+
 use book::fault::fault_number;
 use compile::{LowerAnswer, lower};
 use libc::STDIN_FILENO;

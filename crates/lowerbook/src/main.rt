@@ -1,4 +1,6 @@
 // Lowers a book on standard input without symbols, and prints its nodes, or its refusal.
+#![tactic(auto)]
+
 ghost use Rattle.std.specs.Prelude.{◌+◌, ◌*◌, ◌≤◌, length};
 
 use compile::{LowerAnswer, lower};

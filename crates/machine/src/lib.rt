@@ -1,5 +1,7 @@
 // The machine: nodes are entered and values handed back by turns, and what is left to do stands in frames, so that no run needs more
 // stack than another.
+#![tactic(auto)]
+
 ghost use Rattle.std.specs.Prelude.{◌≡◌, List, ℕ, ◌+◌, ◌≤◌, ◌<◌};
 ghost use Rattle.simplicity.specs.Jets.{jet_on};
 ghost use Rattle.cells.specs.Entries.{kind_at};
@@ -49,7 +51,7 @@ const RIGHTED: u8 = 4;
 const PAIRED: u8 = 5;
 
 // A node to be entered on a cell, a cell to be handed back, or an end at a node; the number of frames and of cells.
-#[derive(Drop)]
+#[derive(Clone, Copy)]
 pub struct State {
     pub mode: u16,
     pub node: u16,

@@ -3,6 +3,8 @@
 // A case: the lengths of the book, of the witness list and of the outcome (two bytes each, low first), and these three. An outcome is
 // the kinds of a value's parts, 1 unit, 2 left, 3 right, 4 pair: the whole before its parts, left before right. An empty one is a
 // failure.
+#![tactic(auto)]
+
 ghost use Rattle.std.specs.Prelude.{◌≡◌, ◌+◌, ◌≤◌, ◌<◌, length};
 
 use cells::table::{PAIR, UNIT, kind_at, left_at, right_at};

@@ -37,7 +37,7 @@ pub const JET: u8 = 15;
 
 // Where the next node goes: its number, the last node that was stored, and whether a node did not fit. A full pen stores nothing, so
 // that a recipe need not ask after each of its nodes.
-#[derive(Drop)]
+#[derive(Clone, Copy)]
 pub struct Pen {
     pub next: u16,
     pub root: u16,
@@ -45,14 +45,14 @@ pub struct Pen {
 }
 
 // The answer of a lowering: the node that stands for what was lowered and the next node's number, or a refusal.
-#[derive(Drop)]
+#[derive(Clone, Copy)]
 pub enum Stored {
     Node { root: u16, next: u16 },
     Refused(Refusal),
 }
 
 // The answer of a lowering of several, whose nodes stand in a lent row: the next node's number, or a refusal.
-#[derive(Drop)]
+#[derive(Clone, Copy)]
 pub enum Filled {
     To(u16),
     Refused(Refusal),

@@ -22,7 +22,7 @@ const OF_JET: u8 = 4;
 const NONE: u8 = 5;
 
 // Whether a table is well formed, or where it is not.
-#[derive(Drop)]
+#[derive(Clone, Copy)]
 pub enum Verdict {
     Well,
     BadAt(u16),

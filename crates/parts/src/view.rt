@@ -7,7 +7,7 @@ use book::format::{CA, CD, CF, CH, CJ, CK, CL, CN, CQ, CR, CW, CY, E0, E1, EH, E
 use book::record::field_at;
 
 // Where the elements of a record stand: the field of the first, how far it is to the next, how many there are.
-#[derive(Drop)]
+#[derive(Clone, Copy)]
 pub struct Span {
     pub from: usize,
     pub stride: usize,
@@ -80,7 +80,7 @@ pub fn is_functional(m: u8) -> bool
 }
 
 // An arm of a match: its pattern and its expression.
-#[derive(Drop)]
+#[derive(Clone, Copy)]
 pub struct Arm {
     pub pattern: u16,
     pub body: u16,

@@ -1,4 +1,6 @@
 // Names in patterns: where a name stands, as the selector that leads to it.
+#![tactic(auto)]
+
 ghost use Rattle.std.specs.Prelude.{◌≡◌};
 ghost use Rattle.book.specs.Format.{PATTERN, FUNCTION, PT};
 ghost use Rattle.book.specs.Index.{mark};
@@ -13,7 +15,7 @@ use named::build::along;
 use named::node::{DROP, IDEN, Pen, TAKE, put};
 
 // What a search for a name comes to: the name is missing and nothing was stored, or its selector was drawn.
-#[derive(Drop)]
+#[derive(Clone, Copy)]
 pub enum Sought {
     Missing,
     Drawn(Pen),
@@ -21,7 +23,7 @@ pub enum Sought {
 
 // The same of a search that keeps no row of vain searches; or a row stands within a row, and nothing was stored: that is for a search
 // which keeps one.
-#[derive(Drop)]
+#[derive(Clone, Copy)]
 pub enum Near {
     Missing,
     Nested,

@@ -1,4 +1,6 @@
 // READ and CHECK for C: what the judges of compare/ call. The plug-in's host has no need of it, and does not link it.
+#![tactic(auto)]
+
 ghost use Rattle.std.specs.Prelude.{◌≡◌};
 ghost use Rattle.book.specs.Read.{read_of};
 ghost use Rattle.typing.specs.Whole.{check_of};
@@ -10,7 +12,7 @@ use typing::{CheckAnswer, check};
 
 // An answer in numbers: a success is number 0 at place 0 with its count of records; a refusal has count 0.
 #[repr(C)]
-#[derive(Drop)]
+#[derive(Clone, Copy)]
 pub struct Outcome {
     pub number: u32,
     pub place: u32,

@@ -1,4 +1,6 @@
 // Reads a book on standard input, and prints how many records it has, or its refusal.
+#![tactic(auto)]
+
 use book::fault::ReadAnswer;
 use libc::STDIN_FILENO;
 

@@ -8,7 +8,7 @@ use named::build::{bit, select};
 use named::node::{CASE, COMP, DROP, INJL, PAIR, Pen, TAKE, put};
 
 // What is next done to the loop's body.
-#[derive(Drop)]
+#[derive(Clone, Copy)]
 pub enum Task {
     ForWhile0,
     Adapt,

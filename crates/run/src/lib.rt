@@ -1,4 +1,6 @@
 // RUN: a table of Simplicity nodes over a table of cells.
+#![tactic(auto)]
+
 ghost use Rattle.std.specs.Prelude.{◌≡◌, ℕ, ◌≤◌, ◌<◌, length, replicate, List, []};
 ghost use Rattle.book.specs.Valid.{Valid};
 ghost use Rattle.cells.specs.Cells.{world, refuses};
@@ -17,7 +19,7 @@ use nodes::check::{Verdict, judge_table};
 
 mod initial;
 // RUN's answer: a value's cell and how many cells are used, a failure, or a refusal.
-#[derive(Drop)]
+#[derive(Clone, Copy)]
 pub enum RunAnswer {
     Value { cell: u16, count: u16 },
     Failed,

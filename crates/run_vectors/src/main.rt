@@ -3,6 +3,8 @@
 // cells, and the places of a jet's bits, if it has any. A table grows from what is given of it: each further entry is the one before,
 // its first number more by one if its growth is odd, its second if it is 2 or 3; odd bytes at its end are 165. Numbers are low byte
 // first.
+#![tactic(auto)]
+
 ghost use Rattle.std.specs.Prelude.{◌+◌, ◌*◌, ◌≤◌, ◌<◌, length};
 
 use book::fault::fault_number;

@@ -1,5 +1,7 @@
 // Runs a book on standard input and prints its value, `failed`, or its refusal. The book's length stands before it, two bytes, low
 // first; the witness list follows it. The book is lowered without symbols.
+#![tactic(auto)]
+
 ghost use Rattle.std.specs.Prelude.{◌≡◌, ◌+◌, ◌≤◌, ◌<◌, length};
 
 use book::word::word;
@@ -22,7 +24,7 @@ const CLOSE: u16 = 65535;
 
 // Where the text of a value is: its length, with what did not fit; how many pairs are open; the cell that is next, unless one was just
 // written whole.
-#[derive(Drop)]
+#[derive(Clone, Copy)]
 struct Place {
     len: usize,
     open: usize,

@@ -1,4 +1,6 @@
 // The bindings of a scope: a fixed row, searched from the newest.
+#![tactic(auto)]
+
 ghost use Rattle.std.specs.Prelude.{◌≡◌, ◌<◌, ◌≤◌, length, replicate};
 ghost use Rattle.named.specs.Combinators.{TAKE, DROP, kinds, wraps};
 ghost use Rattle.named.specs.Draws.{Draws, Done};
@@ -17,7 +19,7 @@ pub const IGNORED: u16 = 65535;
 
 // The bindings in the order in which they were made: the first is the root, the input itself. A binding is a pattern's record, or a
 // function's for its parameter tuple, or IGNORED.
-#[derive(Drop)]
+#[derive(Clone, Copy)]
 pub struct ScopeBindings {
     pub bindings: [u16; 256],
     pub count: usize,

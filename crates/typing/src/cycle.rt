@@ -20,7 +20,7 @@ use shapes::part::{NONE, has_places, is_unit, place, type_of};
 use shapes::whole::agrees;
 
 // What a judgement comes to.
-#[derive(Drop)]
+#[derive(Clone, Copy)]
 pub enum Checked {
     Passed,
     Refused(Refusal),

@@ -1,4 +1,6 @@
 // CHECK: each declared type against the one its parts give.
+#![tactic(auto)]
+
 ghost use Rattle.std.specs.Prelude.{◌≡◌, ◌-◌};
 ghost use Rattle.book.specs.Tree.{expr_of};
 ghost use Rattle.book.specs.Valid.{Valid, Tiles};
@@ -20,7 +22,7 @@ use shapes::whole::value_agrees;
 pub mod cycle;
 
 // CHECK's answer: how many records there are, or a refusal.
-#[derive(Drop)]
+#[derive(Clone, Copy)]
 pub enum CheckAnswer {
     Records(u16),
     Refused(Refusal),

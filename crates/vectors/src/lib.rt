@@ -1,4 +1,6 @@
 // What the programs share that replay vectors: numbers in bytes, tables held against what is due, and the verdict.
+#![tactic(auto)]
+
 ghost use Rattle.std.specs.Prelude.{◌≡◌, true, ◌+◌, ◌*◌, length};
 ghost use Rattle.vectors.specs.Tables.{Alike, AllFrom};
 
