@@ -1,0 +1,17 @@
+-- `read::read_records` meets its contract: what is left of the book answers for it all.
+-- Assumes nothing.
+use Prim.Native.Nat.{◌-◌}
+use Rattle.book.proofs.Going.{Going, none_more, ended, going_bad, going_further, going_on_lem}
+use Rattle.book.specs.Read.{records, state}
+use borrow.Author.Rules.{rules}
+use lib.ListN.{length}
+use mathlib.Core.Path.{refl, sym, ◌∙◌}
+use native.Mathlib.Omega.{arith}
+use Rattle.book.proofs.read.read_records.Given as goal
+
+abbrev pub invariant-loop-at : goal.invariant-loop-at
+invariant-loop-at l =
+    Going l.book (records 4096 l.book (state l.initial.at l.initial.r l.initial.index l.initial.named l.initial.depths)) l.index l.named l.depths l.chains l.at l.r
+
+abbrev pub decreases-loop-at : goal.decreases-loop-at
+decreases-loop-at l = length l.book - l.at
