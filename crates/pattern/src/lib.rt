@@ -32,7 +32,7 @@ pub enum Near {
 
 // Searches a pattern from the left. Patterns share their parts, so that a pattern may have more places than could ever be visited:
 // `missing` has a 1 for each record in which this name was already sought in vain, and no such record is entered again.
-#[cycle(get_from_get_row)]
+#[cycle(seeking)]
 pub fn get_from(
     book: &[u8],
     index: &[u16],
@@ -62,7 +62,7 @@ pub fn get_from(
 }
 
 // The same for a row: its elements one after another. The steps to the element that has the name are drawn around what was found in it.
-#[cycle(get_from_get_row)]
+#[cycle(seeking)]
 fn get_row(
     book: &[u8],
     index: &[u16],

@@ -1,0 +1,39 @@
+-- `get_param` meets its contract: each parameter before k has another name.
+-- Assumes nothing.
+use Prim.Native.Nat.{◌-◌}
+use mathlib.Core.Path.{◌∙◌}
+use native.Mathlib.Omega.{arith}
+use Rattle.book.specs.Index.{field}
+use Rattle.book.specs.Tree.{name, fun_of}
+use Rattle.pattern.specs.Find.{find, params_pattern, params_of}
+use Rattle.pattern.proofs.Selectors.{absent, found_here, seeks_absent, seeks_found}
+use Rattle.pattern.proofs.Passes.{Passes, passes_none, passes_kept, passes_all, passes_next, passes_found, name_is, name_not}
+use Rattle.pattern.proofs.Records.{params_count, params_most, params_lie, finds_params}
+use borrow.Author.Rules.{rules}
+use Rattle.pattern.proofs.get_param.Goals as goal
+
+pub field_at-n-requires : goal.field_at-n-requires
+field_at-n-requires c = search params_count
+
+pub loop-k-init : goal.loop-k-init
+loop-k-init c = passes_none (search params_most) (search finds_params)
+
+pub field_at-requires : goal.field_at-requires
+field_at-requires c = search params_lie
+
+pub shape_of-nodes-then-field_at-name : goal.shape_of-nodes-then-field_at-name
+shape_of-nodes-then-field_at-name c = c.along.ensures.kept ∙ c.put-inner.ensures.kept ∙ passes_kept c.loop-k.invariant
+
+pub returns-then-field_at-name : goal.returns-then-field_at-name
+returns-then-field_at-name c =
+    seeks_found (passes_found c.loop-k.invariant _ (omega arith) (omega arith) (found_here (name_is _ _ _ c.field_at.ensures c.if-field_at-name.true) c.put-inner.ensures) c.along.ensures)
+
+pub loop-k-preserved : goal.loop-k-preserved
+loop-k-preserved c =
+    passes_next c.loop-k.invariant _ (omega arith) (omega arith) _ (omega arith) (absent (name_not _ _ _ c.field_at.ensures c.if-field_at-name.false))
+
+pub shape_of-nodes : goal.shape_of-nodes
+shape_of-nodes c = passes_kept c.loop-k.invariant
+
+pub returns : goal.returns
+returns c = seeks_absent (passes_all c.loop-k.invariant (omega arith))

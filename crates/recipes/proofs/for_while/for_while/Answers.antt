@@ -1,0 +1,29 @@
+-- `for_while` meets its contract: the tasks from the end on are the loop.
+-- Assumes nothing.
+use mathlib.Core.Path.{refl}
+use Prim.Native.Nat.{◌-◌, ◌*◌, ◌≤◌}
+use lib.ListN.{take, drop}
+use lib.Pow.{pow_pos}
+use native.Mathlib.Omega.{arith}
+use Rattle.array.specs.Split.{top_of}
+use Rattle.named.specs.Draws.{Draws}
+use Rattle.recipes.specs.ForWhile.{done_from}
+use Rattle.recipes.proofs.Loops.{done_none, done_next, loop_all}
+use borrow.Author.Rules.{rules}
+use Rattle.recipes.proofs.for_while.for_while.Goals as goal
+
+pub overflow_sub-k : goal.overflow_sub-k
+overflow_sub-k c = omega (arith, pow_pos (top_of c.args.width))
+
+pub loop-k-init : goal.loop-k-init
+loop-k-init c = (omega arith, done_none c.filled-stack.result (2 * c.args.width - 1) (search rules))
+
+pub loop-k-preserved : goal.loop-k-preserved
+loop-k-preserved c =
+    let c₂ = c in
+    let c₃ = c₂.before in
+    let c₄ = c₃.before.before in
+    (omega arith, done_next c₃.filled.result (2 * c₄.args.width - 1) (search rules) _ c₂.loop.k (search rules) (search rules) refl c₂.loop.invariant.1 c.step-at.ensures)
+
+pub returns : goal.returns
+returns c = loop_all _ c.loop-k.k _ _ (omega arith) c.filled-stack.ensures c.loop-k.invariant.1
