@@ -9,19 +9,11 @@ use Rattle.recipes.proofs.calls.is_none.Goals as goal
 pub shape_of-nodes : goal.shape_of-nodes
 unfolding is_none
 shape_of-nodes c =
-    let c₂ = c in
-    let c₃ = c₂.before.before.before.before in
-    let c₄ = c₃.before.before.before.before in
-    let c₅ = c₄.before.before.before.before in
-    c.put.ensures.kept ∙ c₂.put.ensures.kept ∙ c₃.bit2.ensures.kept ∙ c₄.bit.ensures.kept
-    ∙ c₅.beside-unit.ensures.kept
+    c.put.ensures.kept ∙ c.put-choice.ensures.kept ∙ c.bit-no.ensures.kept ∙ c.bit-yes.ensures.kept
+    ∙ c.beside_unit-input.ensures.kept
 
 pub returns : goal.returns
 unfolding is_none
 returns c =
-    let c₂ = c in
-    let c₃ = c₂.before.before.before.before in
-    let c₄ = c₃.before.before.before.before in
-    let c₅ = c₄.before.before.before.before in
-    draw_then _ c₅.beside-unit.ensures (draw_then _ c₄.bit.ensures (draw_then _ c₃.bit2.ensures
-    (draw_then _ c₂.put.ensures c.put.ensures)))
+    draw_then _ c.beside_unit-input.ensures (draw_then _ c.bit-yes.ensures (draw_then _ c.bit-no.ensures
+    (draw_then _ c.put-choice.ensures c.put.ensures)))

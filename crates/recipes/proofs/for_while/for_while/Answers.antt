@@ -20,10 +20,7 @@ loop-k-init c = (omega arith, done_none c.filled-stack.result (2 * c.args.width 
 
 pub loop-k-preserved : goal.loop-k-preserved
 loop-k-preserved c =
-    let c₂ = c in
-    let c₃ = c₂.before in
-    let c₄ = c₃.before.before in
-    (omega arith, done_next c₃.filled.result (2 * c₄.args.width - 1) (search rules) _ c₂.loop.k (search rules) (search rules) refl c₂.loop.invariant.1 c.step-at.ensures)
+    (omega arith, done_next c.filled-stack.result (2 * c.args.width - 1) (search rules) _ c.loop-k.k (search rules) (search rules) refl c.loop-k.invariant.1 c.step-at.ensures)
 
 pub returns : goal.returns
 returns c = loop_all _ c.loop-k.k _ _ (omega arith) c.filled-stack.ensures c.loop-k.invariant.1

@@ -9,26 +9,12 @@ use Rattle.recipes.proofs.for_while.for_while_0.Goals as goal
 pub shape_of-nodes : goal.shape_of-nodes
 unfolding for_while0
 shape_of-nodes c =
-    let c₂ = c in
-    let c₃ = c₂.before.before.before.before in
-    let c₄ = c₃.before.before.before.before in
-    let c₅ = c₄.before.before.before.before in
-    let c₆ = c₅.before.before.before.before.before in
-    let c₇ = c₆.before.before.before.before in
-    let c₈ = c₇.before.before.before.before.before in
-    c.put.ensures.kept ∙ c₂.put3.ensures.kept ∙ c₃.turn2.ensures.kept ∙ c₄.put2.ensures.kept
-    ∙ c₅.select2.ensures.kept ∙ c₆.put.ensures.kept ∙ c₇.select.ensures.kept ∙ c₈.turn.ensures.kept
+    c.put.ensures.kept ∙ c.put-choice.ensures.kept ∙ c.turn-second.ensures.kept ∙ c.put-stop.ensures.kept
+    ∙ c.select-result.ensures.kept ∙ c.put-input.ensures.kept ∙ c.select-context.ensures.kept ∙ c.turn-first.ensures.kept
 
 pub returns : goal.returns
 unfolding for_while0
 returns c =
-    let c₂ = c in
-    let c₃ = c₂.before.before.before.before in
-    let c₄ = c₃.before.before.before.before in
-    let c₅ = c₄.before.before.before.before in
-    let c₆ = c₅.before.before.before.before.before in
-    let c₇ = c₆.before.before.before.before in
-    let c₈ = c₇.before.before.before.before.before in
-    draw_then _ c₈.turn.ensures (draw_then _ c₇.select.ensures (draw_then _ c₆.put.ensures
-    (draw_then _ c₅.select2.ensures (draw_then _ c₄.put2.ensures (draw_then _ c₃.turn2.ensures
-    (draw_then _ c₂.put3.ensures c.put.ensures))))))
+    draw_then _ c.turn-first.ensures (draw_then _ c.select-context.ensures (draw_then _ c.put-input.ensures
+    (draw_then _ c.select-result.ensures (draw_then _ c.put-stop.ensures (draw_then _ c.turn-second.ensures
+    (draw_then _ c.put-choice.ensures c.put.ensures))))))

@@ -12,13 +12,7 @@ pub loop-doublings-init : goal.loop-doublings-init
 loop-doublings-init c = search doubling_first
 
 pub loop-doublings-preserved : goal.loop-doublings-preserved
-loop-doublings-preserved c =
-    let c₂ = c in
-    let c₃ = c₂.before.before.before in
-    doubling_next _ c₃.loop.invariant (omega arith) c₂.next-f-array.ensures c.next_f_fold-fold.ensures
+loop-doublings-preserved c = doubling_next _ c.loop-doublings.invariant (omega arith) c.next_f_array-block.ensures c.next_f_fold-fold.ensures
 
 pub returns : goal.returns
-returns c =
-    let c₂ = c in
-    let c₃ = c₂.before.before.before.before in
-    list_whole _ _ c.loop-doublings.invariant (omega arith) (search rules) c₃.select.ensures c₂.put.ensures
+returns c = list_whole _ _ c.loop-doublings.invariant (omega arith) (search rules) c.select-keep.ensures c.put-fold.ensures

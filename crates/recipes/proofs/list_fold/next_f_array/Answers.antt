@@ -9,19 +9,11 @@ use Rattle.recipes.proofs.list_fold.next_f_array.Goals as goal
 pub shape_of-nodes : goal.shape_of-nodes
 unfolding next_array
 shape_of-nodes c =
-    let c₂ = c in
-    let c₃ = c₂.before.before.before.before.before in
-    let c₄ = c₃.before.before.before.before in
-    let c₅ = c₄.before.before.before.before.before in
-    c.applied.ensures.kept ∙ c₂.select3.ensures.kept ∙ c₃.applied.ensures.kept ∙ c₄.select2.ensures.kept
-    ∙ c₅.select.ensures.kept
+    c.applied.ensures.kept ∙ c.select-second.ensures.kept ∙ c.applied-middle.ensures.kept ∙ c.select-start.ensures.kept
+    ∙ c.select-first.ensures.kept
 
 pub returns : goal.returns
 unfolding next_array
 returns c =
-    let c₂ = c in
-    let c₃ = c₂.before.before.before.before.before in
-    let c₄ = c₃.before.before.before.before in
-    let c₅ = c₄.before.before.before.before.before in
-    draw_then _ c₅.select.ensures (draw_then _ c₄.select2.ensures (draw_then _ c₃.applied.ensures
-    (draw_then _ c₂.select3.ensures c.applied.ensures)))
+    draw_then _ c.select-first.ensures (draw_then _ c.select-start.ensures (draw_then _ c.applied-middle.ensures
+    (draw_then _ c.select-second.ensures c.applied.ensures)))

@@ -1,0 +1,18 @@
+-- `word_at` meets its contract: each width by itself.
+-- Assumes nothing.
+use Rattle.cells.proofs.Words.{word_wide, fourth_width}
+use Rattle.std.proofs.Common.{rules}
+use Rattle.cells.proofs.jets.word_at.Goals as goal
+
+pub returns-in-0 : goal.returns-in-0
+returns-in-0 c = word_wide c.in-0.is c.bit_at.ensures
+
+pub returns-in-1 : goal.returns-in-1
+returns-in-1 c = word_wide c.in-1.is c.two_bits_at.ensures
+
+pub returns-in-2 : goal.returns-in-2
+returns-in-2 c = word_wide c.in-2.is c.four_bits_at.ensures
+
+pub returns-in_default : goal.returns-in_default
+returns-in_default c =
+    word_wide (fourth_width _ c.requires c.in_default.in_default-own.rest.0.0.1 c.in_default.in_default-own.rest.0.1 c.in_default.in_default-own.rest.1) c.byte_at.ensures

@@ -1,0 +1,27 @@
+-- `variant` meets its contract: the payload is there already, and its path is drawn around it.
+-- Assumes nothing.
+use native.Mathlib.Omega.{arith}
+use mathlib.Core.Path.{refl}
+use Rattle.named.proofs.Pens.{closes}
+use Rattle.parts.specs.Parts.{wrap_run}
+use Rattle.parts.proofs.Marks.{lies}
+use Rattle.parts.proofs.Numbers.{variant_under, variant_most}
+use borrow.Author.Rules.{rules}
+use Rattle.parts.proofs.part.variant.Goals as goal
+
+pub field_at-k-requires : goal.field_at-k-requires
+unfolding wrap_run
+field_at-k-requires c = lies c.requires 1 tt
+
+pub field_at-n-requires : goal.field_at-n-requires
+unfolding wrap_run
+field_at-n-requires c = lies c.requires 2 tt
+
+pub along-whole-requires : goal.along-whole-requires
+unfolding wrap_run
+along-whole-requires c = (omega (arith, variant_under c.requires), omega (arith, variant_most c.requires))
+
+pub returns : goal.returns
+unfolding wrap_run
+returns c =
+    rw (← c.field_at-n.ensures, ← c.field_at-k.ensures) (closes (record { next = refl; full = refl }) c.along-whole.ensures c.answer_of.ensures)

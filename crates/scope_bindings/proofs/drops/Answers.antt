@@ -1,0 +1,19 @@
+-- `drops` meets its contract: one drop more than before.
+-- Assumes nothing.
+use Prim.Native.Nat.{◌≤◌, ◌-◌}
+use native.Mathlib.Omega.{arith}
+use lib.ListN.{replicate}
+use Rattle.named.specs.Combinators.{DROP, wraps}
+use Rattle.named.specs.Draws.{Draws}
+use Rattle.scope_bindings.proofs.Reaches.{drops_none, drops_next, drops_all}
+use borrow.Author.Rules.{rules}
+use Rattle.scope_bindings.proofs.drops.Goals as goal
+
+pub loop-k-init : goal.loop-k-init
+loop-k-init c = (omega arith, drops_none)
+
+pub loop-k-preserved : goal.loop-k-preserved
+loop-k-preserved c = (omega arith, search (drops_next, rules))
+
+pub returns : goal.returns
+returns c = search (drops_all, rules)

@@ -1,0 +1,16 @@
+-- `get_near` meets its contract: the bindings from `at` on have not the name, and `get_far` goes on from there.
+-- Assumes nothing.
+use mathlib.Core.Path.{refl, ◌∙◌}
+use native.Mathlib.Omega.{arith}
+use Rattle.pattern.proofs.Selectors.{seeks_absent, seeks_found, near_missing, near_nested, near_drawn}
+use Rattle.scope_bindings.specs.Scope.{lookup, newest}
+use Rattle.scope_bindings.proofs.Reaches.{Misses, misses_whole, misses_kept, misses_all, misses_far, misses_next, misses_found}
+use borrow.Author.Rules.{rules}
+use Rattle.scope_bindings.proofs.get_near.Given as goal
+
+abbrev pub invariant-loop-at : goal.invariant-loop-at
+invariant-loop-at l =
+    Misses (lookup l.name (newest l.book l.index l.bindings l.count)) l.book l.index l.bindings l.count l.name l.at l.initial.nodes l.nodes
+
+abbrev pub decreases-loop-at : goal.decreases-loop-at
+decreases-loop-at l = l.at
