@@ -1,0 +1,11 @@
+-- `back_kept` meets its contract.
+-- Assumes nothing.
+use Rattle.machine.proofs.Turns.{backs_kept, backs_full}
+use borrow.Author.Rules.{rules}
+use Rattle.machine.proofs.back_kept.Goals as goal
+
+pub returns-then-p : goal.returns-then-p
+returns-then-p c = backs_full _ _ _ c.if-p.true c.end_with.ensures
+
+pub returns : goal.returns
+returns c = backs_kept _ _ _ c.if-p.false

@@ -1,0 +1,8 @@
+-- `down` meets its contract.
+-- Assumes nothing.
+use Rattle.machine.proofs.Turns.{downed}
+use borrow.Author.Rules.{rules}
+use Rattle.machine.proofs.down.Goals as goal
+
+pub returns : goal.returns
+returns c = downed _ _ _ _ _ _ _ _ c.requires.deep c.requires.depth_in_range

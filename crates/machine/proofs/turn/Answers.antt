@@ -1,0 +1,7 @@
+-- `turn` meets its contract.
+-- Assumes nothing.
+use borrow.Author.Rules.{rules}
+use Rattle.machine.proofs.turn.Goals as goal
+
+pub returns : goal.returns
+returns c = c.back.ensures _ _

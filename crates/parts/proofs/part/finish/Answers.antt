@@ -1,0 +1,20 @@
+-- `finish` meets its contract: by way of an assert, or not.
+-- Assumes nothing.
+use Rattle.parts.specs.Joins.{finished}
+use borrow.Author.Tests.{lt-ltb, le-ltb}
+use Rattle.named.proofs.Pens.{closes}
+use borrow.Author.Rules.{rules}
+use Rattle.parts.proofs.part.finish.Goals as goal
+use Rattle.parts.proofs.part.finish.Goals.{then-symbols+else-symbol-gt0, else-symbols}
+
+pub returns-then-symbol-gt0 : goal.returns-then-symbol-gt0
+unfolding finished
+returns-then-symbol-gt0 c = rw (c.if-symbols.true, ← c.symbol_of-symbol.ensures, lt-ltb 0 _ c.if-symbol-gt0.true) (search closes)
+
+pub returns : goal.returns
+unfolding finished
+returns c =
+    elim c.if-symbols.branch [
+      | then-symbols+else-symbol-gt0 w ↦ rw (w.if-symbols.true, ← c.symbol_of-symbol.ensures, le-ltb 0 _ w.if-symbol-gt0.false) (search closes)
+      | else-symbols w ↦ rw w.if-symbols.false (search closes)
+    ]
