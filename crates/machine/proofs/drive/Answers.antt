@@ -18,7 +18,7 @@ loop-s-smaller c = left_less c.turn-s.ensures
 
 pub loop-s-preserved : goal.loop-s-preserved
 loop-s-preserved c =
-    going_more c.loop-s.invariant c.turn-s.ensures c.turn-s.auto.1.1.1.1.1.1.0 c.turn-s.auto.1.1.1.1.1.1.1.0 c.turn-s.auto.1.1.1.1.1.1.1.1.0 c.turn-s.auto.1.1.1.1.1.1.1.1.1.0
+    going_more c.loop-s.invariant c.turn-s.ensures c.turn-s.auto.cells c.turn-s.auto.codes c.turn-s.auto.places c.turn-s.auto.held
 
 pub shape_of-cells : goal.shape_of-cells
 shape_of-cells c = c.loop-s.invariant.table

@@ -8,6 +8,7 @@ use Rattle.machine.proofs.Ways.{range_part, range_case, range_none, kind_iden, k
 use native.Mathlib.Omega.{arith}
 use borrow.Author.Rules.{rules}
 use Rattle.machine.proofs.enter.Goals as goal
+use Rattle.machine.proofs.enter.Goals.{in-8-1, in_default+else-kind-lt1+else-kind-lt7+then-kind-lt12, in_default-via-then-kind-lt1, in_default-via-else-kind-lt1+else-kind-lt7+else-kind-lt12}
 
 pub returns-then-s-ge-DEEPEST : goal.returns-then-s-ge-DEEPEST
 returns-then-s-ge-DEEPEST c = turned_steep c.requires.mode_is.0 (omega (arith, c.if-s-ge-DEEPEST.true, c.requires.mode_is.1)) c.end_with.ensures
@@ -18,7 +19,7 @@ enter_part-requires c =
 
 pub enter_case-requires : goal.enter_case-requires
 enter_case-requires c =
-    record { mode_is = (c.requires.mode_is.0, c.if-s-ge-DEEPEST.false); deep = c.requires.deep; kind_at_is = (sym c.kind_at-kind.ensures, ⊎_elim (λ a. inl a.keys7) (λ b. range_case _ b.0.rest b.2.left b.3.taken) c.in-8-to-11-1.branch) }
+    record { mode_is = (c.requires.mode_is.0, c.if-s-ge-DEEPEST.false); deep = c.requires.deep; kind_at_is = (sym c.kind_at-kind.ensures, elim c.in-8-to-11-1.branch [ in-8-1 w ↦ inl (search rules) | in_default+else-kind-lt1+else-kind-lt7+then-kind-lt12 w ↦ range_case _ w.in_default-1.rest (search rules) (search rules) ]) }
 
 pub returns-in-1 : goal.returns-in-1
 returns-in-1 c =
@@ -65,7 +66,7 @@ returns-in-5-to-6 c = c.enter_part.ensures _ _
 
 pub returns-in_default : goal.returns-in_default
 returns-in_default c =
-    turned_answers c.requires.mode_is.0 c.if-s-ge-DEEPEST.false c.end_with-in_default.ensures (λ kids. kind_none _ _ _ _ kids _ (sym c.kind_at-kind.ensures) (range_none _ c.in_default-1.rest (⊎_elim (λ a. inl a.taken) (λ b. inr b.2.left) c.in_default.branch)))
+    turned_answers c.requires.mode_is.0 c.if-s-ge-DEEPEST.false c.end_with-in_default.ensures (λ kids. kind_none _ _ _ _ kids _ (sym c.kind_at-kind.ensures) (range_none _ c.in_default-1.rest (elim c.in_default.branch [ in_default-via-then-kind-lt1 w ↦ inl (search rules) | in_default-via-else-kind-lt1+else-kind-lt7+else-kind-lt12 w ↦ inr (search rules) ])))
 
 pub returns-in-8-to-11 : goal.returns-in-8-to-11
 returns-in-8-to-11 c = c.enter_case.ensures _ _
