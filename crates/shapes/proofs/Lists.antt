@@ -67,8 +67,8 @@ module _ {b i : List ℕ} (a : Ty) {o : Bool} {t n : ℕ} (g : Down b i (is_list
       unfolding fewer
       list-sides = rw (half_top g.power h) (same_product g.stands e l r _ _ q)
 
-      pub list_other : not u ≡ true → false ≡ o
+      pub list_other : u ≡ false → false ≡ o
       list_other z = sym (down_is g h ∙ first_fails _ v list-sides z)
 
-      pub list_next : not u ≡ false → Down b i (is_lists a) o w (n / 2)
+      pub list_next : u ≡ true → Down b i (is_lists a) o w (n / 2)
       list_next z = down_next g h (side_at g.stands e {m = TP} tt q {k = 1} (omega arith) r) (first_holds _ v list-sides z)

@@ -6,7 +6,6 @@ use mathlib.Core.List.{List, [], ◌∷◌}
 use mathlib.Core.Option.{some, none}
 use mathlib.Core.Path.{◌≡◌, refl, sym, ap, ◌∙◌}
 use native.Mathlib.Omega.{arith}
-use borrow.Author.Tests.{not-true, not-false}
 use lib.Dec.{T, eqb, lt→ltb}
 use Rattle.laws.specs.Table.{pick, both, among, ◌also◌, every}
 use Rattle.array.specs.Path.{Side, on_left, on_right}
@@ -59,11 +58,11 @@ unit_same (sum a b) = refl
 unit_same (product a b) = refl
 
 -- a test of two, after a look at the first: it fails, or it is the second
-pub first_fails : {r u w : Bool} (v : Bool) → w ≡ u → r ≡ both u v → not w ≡ true → r ≡ false
-first_fails {w = w} v l e h = rw (e, ← l, not-true w h)
+pub first_fails : {r u w : Bool} (v : Bool) → w ≡ u → r ≡ both u v → w ≡ false → r ≡ false
+first_fails v l e h = rw (e, ← l, h)
 
-pub first_holds : {r u w : Bool} (v : Bool) → w ≡ u → r ≡ both u v → not w ≡ false → r ≡ v
-first_holds {w = w} v l e h = rw (e, ← l, not-false w h)
+pub first_holds : {r u w : Bool} (v : Bool) → w ≡ u → r ≡ both u v → w ≡ true → r ≡ v
+first_holds v l e h = rw (e, ← l, h)
 
 -- what holds of both sorts' marks holds of a sort's
 by_sort : (P : ℕ → Type 0) → P TS → P TP → {m : ℕ} → T (is_sort m) → P m

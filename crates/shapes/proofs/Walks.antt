@@ -5,7 +5,7 @@ use mathlib.Core.Bool.{Bool, true, false, not}
 use mathlib.Core.List.{List, [], ◌∷◌}
 use mathlib.Core.Path.{◌≡◌, refl, sym, ap, ◌∙◌}
 use native.Mathlib.Omega.{arith}
-use borrow.Author.Tests.{eq-eqb, ne_eqb, not-true, not-false}
+use borrow.Author.Tests.{eq-eqb, ne_eqb}
 use lib.Dec.{eqb}
 use Rattle.laws.specs.Table.{both, true_false}
 
@@ -36,11 +36,11 @@ module _ {w x : Bool} where
 
 -- what is learnt of a test x: where the code's own test t of it is turned round, and where it is one of two numbers
 module _ {x : Bool} where
-  pub no : {t : Bool} → t ≡ x → not t ≡ true → x ≡ false
-  no {t} e o = sym e ∙ not-true t o
+  pub no : {t : Bool} → t ≡ x → t ≡ false → x ≡ false
+  no e o = sym e ∙ o
 
-  pub yes : {t : Bool} → t ≡ x → not t ≡ false → x ≡ true
-  yes {t} e o = sym e ∙ not-false t o
+  pub yes : {t : Bool} → t ≡ x → t ≡ true → x ≡ true
+  yes e o = sym e ∙ o
 
   pub differ : {a c : ℕ} → eqb a c ≡ x → (a ≡ c → ⊥) → x ≡ false
   differ {a} {c} e o = sym e ∙ ne_eqb a c o

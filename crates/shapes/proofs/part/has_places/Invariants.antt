@@ -1,0 +1,18 @@
+-- `has_places` meets its contract: there is a place for each, one more each time.
+-- Assumes nothing.
+use native.Mathlib.Omega.{arith}
+use Prim.Native.Nat.{◌≤◌, ◌-◌}
+use mathlib.Core.Bool.{true}
+use mathlib.Core.Path.{◌≡◌, refl, sym}
+use Rattle.laws.specs.Table.{below}
+use Rattle.book.specs.Tree.{type_of}
+use Rattle.shapes.specs.Shapes.{sums, place_of, is_there, has_places}
+use Rattle.shapes.proofs.Same.{there_not, there_is}
+use Rattle.shapes.proofs.Places.{below_next, below_not}
+use Rattle.shapes.proofs.part.has_places.Given as goal
+
+abbrev pub invariant-loop-k : goal.invariant-loop-k
+invariant-loop-k l = (l.k ≤ l.n) × (below (λ j. is_there (place_of sums l.n j (type_of l.book l.index l.t))) l.k ≡ true)
+
+abbrev pub decreases-loop-k : goal.decreases-loop-k
+decreases-loop-k l = l.n - l.k

@@ -1,0 +1,14 @@
+-- `is_array` meets its contract: each place is the type's, one more each time.
+-- Assumes nothing.
+use native.Mathlib.Omega.{arith}
+use Prim.Native.Nat.{◌-◌}
+use Rattle.book.specs.Tree.{type_of}
+use Rattle.shapes.proofs.Same.{gives_is, gives_other}
+use Rattle.shapes.proofs.Places.{Agrees, agrees_none, agrees_next, array_all, array_not}
+use Rattle.shapes.proofs.part.is_array.Given as goal
+
+abbrev pub invariant-loop-k : goal.invariant-loop-k
+invariant-loop-k l = Agrees l.n (λ j. type_of l.book l.index l.element) (type_of l.book l.index l.t) l.k
+
+abbrev pub decreases-loop-k : goal.decreases-loop-k
+decreases-loop-k l = l.n - l.k

@@ -1,0 +1,18 @@
+-- `unwrap` meets its contract: the part's side and the declared type are one record's.
+-- Assumes nothing.
+use Rattle.shapes.proofs.Constructs.{typed_stands, unwrap_is, unwrap_part}
+use Rattle.shapes.proofs.Same.{gives_at}
+use Rattle.shapes.proofs.Walks.{tells}
+use Rattle.shapes.proofs.whole.unwrap.Goals as goal
+
+pub part_type-part-requires : goal.part_type-part-requires
+part_type-part-requires c =
+    let both = unwrap_part _ c.requires.declares c.requires.k_in_range in
+    record { lies = both.0; stands = both.1 }
+
+pub side-requires : goal.side-requires
+side-requires c = record { stands = c.part_type-part.ensures.0; sort = tt; k_in_range = c.requires.k_in_range }
+
+pub returns : goal.returns
+returns c =
+    tells (unwrap_is _ c.requires.declares c.requires.k_in_range c.part_type-part.ensures) (gives_at c.side.ensures (typed_stands c.requires.declares))

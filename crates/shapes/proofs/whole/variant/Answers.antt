@@ -1,0 +1,41 @@
+-- `variant` meets its contract: all places, and then the payload's.
+-- Assumes nothing.
+use mathlib.Core.Path.{◌∙◌, refl, sym}
+use Rattle.shapes.proofs.Constructs.{at_none, at_some, typed_lies, typed_stands, variant_is, variant_most, variant_under}
+use Rattle.shapes.proofs.Rows.{span_row}
+use Rattle.shapes.proofs.Same.{gives_none, gives_some, gives_stands}
+use Rattle.shapes.proofs.Walks.{fails, no, passes, tells, yes}
+use borrow.Author.Rules.{rules}
+use Rattle.shapes.proofs.whole.variant.Goals as goal
+
+pub span_of-span-requires : goal.span_of-span-requires
+span_of-span-requires c = c.requires.marked
+
+pub field_at-n-requires : goal.field_at-n-requires
+field_at-n-requires c = typed_lies c.requires 2 tt
+
+pub has_places-requires : goal.has_places-requires
+has_places-requires c = record { stands = typed_stands c.requires; n_in_range = variant_most c.requires c.field_at-n.ensures }
+
+pub returns-then-not-has_places : goal.returns-then-not-has_places
+returns-then-not-has_places c =
+    fails (variant_is c.requires c.field_at-n.ensures refl c.span_of-span.ensures) (no c.has_places.ensures c.if-not-has_places.true)
+
+pub field_at-requires : goal.field_at-requires
+field_at-requires c = typed_lies c.requires 1 tt
+
+pub place-payload-requires : goal.place-payload-requires
+place-payload-requires c =
+    record { stands = typed_stands c.requires; sort = tt; k_in_range = variant_under c.requires c.field_at-n.ensures c.field_at.ensures; n_in_range = variant_most c.requires c.field_at-n.ensures }
+
+pub returns-then-payload : goal.returns-then-payload
+returns-then-payload c =
+    fails (passes (variant_is c.requires c.field_at-n.ensures c.field_at.ensures c.span_of-span.ensures) (yes c.has_places.ensures c.if-not-has_places.false)) (at_none _ (gives_none c.place-payload.ensures c.if-payload.true))
+
+pub is_row-requires : goal.is_row-requires
+is_row-requires c =
+    record { stands = gives_stands c.place-payload.ensures c.if-payload.false; elements = span_row c.requires.marked tt c.span_of-span.ensures }
+
+pub returns : goal.returns
+returns c =
+    tells (passes (variant_is c.requires c.field_at-n.ensures c.field_at.ensures c.span_of-span.ensures) (yes c.has_places.ensures c.if-not-has_places.false)) (c.is_row.ensures ∙ sym (at_some _ (gives_some c.place-payload.ensures c.if-payload.false)))
