@@ -1,0 +1,16 @@
+-- `initial::number_values` meets its contract: the first r records are numbered.
+-- Assumes nothing.
+use borrow.Author.Rules.{rules}
+use native.Mathlib.Omega.{arith}
+use Prim.Native.Nat.{◌-◌}
+use mathlib.Core.Logic.{⊎_elim}
+use mathlib.Core.Path.{sym, ◌∙◌}
+use Rattle.nodes.specs.Given.{text}
+use Rattle.run.proofs.Seeds.{Numbered, zeros_length, few_values, number_none, number_value, number_other, number_all}
+use Rattle.run.proofs.initial.number_values.Given as goal
+
+abbrev pub invariant-loop-r : goal.invariant-loop-r
+invariant-loop-r l = Numbered (text l.book l.index l.records) l.row l.next l.r
+
+abbrev pub decreases-loop-r : goal.decreases-loop-r
+decreases-loop-r l = l.records - l.r
