@@ -15,7 +15,7 @@ use Rattle.simplicity.specs.Types.{Ty, one, same}
 use Rattle.book.specs.Format.{PATTERN, PT}
 use Rattle.book.specs.Index.{mark, field}
 use Rattle.book.specs.Stands.{Stands}
-use Rattle.book.specs.Tree.{Pat, patRow, noPats, morePats, as_pattern, type_of, pattern_of}
+use Rattle.book.specs.Tree.{Pat, pat_row, no_pats, more_pats, as_pattern, type_of, pattern_of}
 use Rattle.book.proofs.Standing.{stands_tree}
 use Rattle.book.proofs.Built.{group_next, group_none}
 use Rattle.pattern.proofs.Passes.{row_at, size_row}
@@ -45,7 +45,7 @@ fits_left n a t k = fits_from n k (row_at 1 a (1 + k) (n - k)) t
 
 module _ (n : ℕ) (a : ℕ → Pat) (t : Ty) where
   -- the whole row
-  fits_all : fits (patRow (row_at 1 a 1 n)) t ≡ pick (eqb n 0) (same t one) (fits_left n a t 0)
+  fits_all : fits (pat_row (row_at 1 a 1 n)) t ≡ pick (eqb n 0) (same t one) (fits_left n a t 0)
   unfolding fits fits_left
   fits_all =
       let z : n - 0 ≡ n = omega arith in
@@ -54,11 +54,11 @@ module _ (n : ℕ) (a : ℕ → Pat) (t : Ty) where
   -- an element and those after it; no more element
   fits_next : (k : ℕ) → k < n → fits_left n a t k ≡ both (elim (place_of products n k t) [ some s ↦ fits (a (1 + k)) s | none ↦ false ]) (fits_left n a t (suc k))
   unfolding fits_from fits_left
-  fits_next k o = ap (λ ps. fits_from n k ps t) (group_next 1 noPats (λ j. morePats (a j)) (1 + k) (n - k) (1 + suc k) (n - suc k) (omega arith) (omega arith))
+  fits_next k o = ap (λ ps. fits_from n k ps t) (group_next 1 no_pats (λ j. more_pats (a j)) (1 + k) (n - k) (1 + suc k) (n - suc k) (omega arith) (omega arith))
 
   fits_none : (k : ℕ) → n ≤ k → fits_left n a t k ≡ true
   unfolding fits_from fits_left
-  fits_none k o = ap (λ ps. fits_from n k ps t) (group_none 1 noPats (λ j. morePats (a j)) (1 + k) (n - k) (omega arith))
+  fits_none k o = ap (λ ps. fits_from n k ps t) (group_none 1 no_pats (λ j. more_pats (a j)) (1 + k) (n - k) (omega arith))
 
 -- a record's pattern by its mark: one that is no row fits every type; a row
 module _ {b i : List ℕ} {p : ℕ} (s : Stands b i p PATTERN) (t : Ty) where

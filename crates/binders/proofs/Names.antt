@@ -11,7 +11,7 @@ use Rattle.laws.specs.Table.{pick, among}
 use Rattle.book.specs.Format.{PATTERN, FUNCTION, PI, PN, PT, FN}
 use Rattle.book.specs.Index.{mark, field}
 use Rattle.book.specs.Stands.{Stands}
-use Rattle.book.specs.Tree.{Pat, noPats, morePats, Tree, as_pattern, as_fun, group, pattern_of, fun_of, tree, params_at}
+use Rattle.book.specs.Tree.{Pat, no_pats, more_pats, Tree, as_pattern, as_fun, group, pattern_of, fun_of, tree, params_at}
 use Rattle.book.proofs.Built.{group_next, group_none}
 use Rattle.book.proofs.Standing.{stands_tree, function_mark}
 use Rattle.pattern.specs.Find.{params_of}
@@ -90,7 +90,7 @@ module _ (s : ℕ) (f : ℕ → List ℕ) (h n : ℕ) where
   after_none k o = group_none s [] (λ i. ◌++◌ (f i)) (h + k * s) (n - k) (omega arith)
 
 -- the names of a row of patterns, and of parameters, element by element
-row_each : (s : ℕ) (a : ℕ → Pat) (h m : ℕ) → names_row (group s noPats (λ j. morePats (a j)) h m) ≡ group s [] (λ j. ◌++◌ (names (a j))) h m
+row_each : (s : ℕ) (a : ℕ → Pat) (h m : ℕ) → names_row (group s no_pats (λ j. more_pats (a j)) h m) ≡ group s [] (λ j. ◌++◌ (names (a j))) h m
 unfolding names_row group
 row_each s a h zero = refl
 row_each s a h (suc m) = ap (◌++◌ (names (a h))) (row_each s a (h + s) m)

@@ -15,7 +15,7 @@ use Rattle.simplicity.specs.Types.{Ty}
 use Rattle.book.specs.Format.{TYPE, PATTERN, PI, PT}
 use Rattle.book.specs.Index.{mark, field}
 use Rattle.book.specs.Stands.{Stands}
-use Rattle.book.specs.Tree.{Pat, patRow, as_pattern, group, pattern_of, type_of}
+use Rattle.book.specs.Tree.{Pat, pat_row, as_pattern, group, pattern_of, type_of}
 use Rattle.book.proofs.Picks.{both_true}
 use Rattle.book.proofs.Standing.{stands_few, stands_tree}
 use Rattle.pattern.specs.Find.{find, within}
@@ -57,7 +57,7 @@ from_fits s a n k h (suc m) t f (suc q) o =
     let y : k + suc q ≡ suc k + q = omega arith in
     rw (z, y) (from_fits s a n (suc k) (h + s) m t (both_true (fits_at (a h) (place_of products n k t)) (fits_from n (suc k) (row_at s a (h + s) m) t) f).1 q (omega arith))
 
-row_fits : (s : ℕ) (a : ℕ → Pat) (h n : ℕ) (t : Ty) → fits (patRow (row_at s a h n)) t ≡ true → (k : ℕ) → k < n → fits_at (a (h + k * s)) (place_of products n k t) ≡ true
+row_fits : (s : ℕ) (a : ℕ → Pat) (h n : ℕ) (t : Ty) → fits (pat_row (row_at s a h n)) t ≡ true → (k : ℕ) → k < n → fits_at (a (h + k * s)) (place_of products n k t) ≡ true
 unfolding fits
 row_fits s a h n t f k o =
     let y : 0 + k ≡ k = omega arith in
@@ -108,7 +108,7 @@ module _ {b i : List ℕ} {p t : ℕ} (d : Binds b i p t) where
   unfolding as_pattern
   binds_element n k j u s e z o y f g =
       let at-k : 1 + k * 1 ≡ j = omega arith in
-      let row : fits (patRow (row_at 1 (λ q. pattern_of b i (field b i p q)) 1 n)) (type_of b i t) ≡ true = rw z (rw (stands_tree d.pattern PT e) at d.fit) in
+      let row : fits (pat_row (row_at 1 (λ q. pattern_of b i (field b i p q)) 1 n)) (type_of b i t) ≡ true = rw z (rw (stands_tree d.pattern PT e) at d.fit) in
       let fit : fits_at (pattern_of b i u) (place_of products n k (type_of b i t)) ≡ true = rw (f, ← at-k) (row_fits 1 (λ q. pattern_of b i (field b i p q)) 1 n (type_of b i t) row k o) in
       let part = row_part d.pattern n k j e z o y u f in
       let here = place_fits (pattern_of b i u) g fit in

@@ -5,7 +5,7 @@ use Rattle.std.proofs.Math.Option.{Option, some, none}
 use Rattle.laws.specs.Table.{pick, both, among}
 use Rattle.array.specs.Path.{Side}
 use Rattle.simplicity.specs.Types.{Ty, one, same}
-use Rattle.book.specs.Tree.{Pat, name, ignore, patRow, Pats, noPats, morePats, Param, Fun, fun}
+use Rattle.book.specs.Tree.{Pat, name, ignore, pat_row, Pats, no_pats, more_pats, Param, Fun, fun}
 use Rattle.pattern.specs.Find.{size, find, params_pattern}
 use Rattle.shapes.specs.Shapes.{products, leads, place_of, row_type, param_types}
 
@@ -14,23 +14,23 @@ unfoldable mutual
   pub fits : Pat → Ty → Bool
   fits (name x) t = true
   fits ignore t = true
-  fits (patRow ps) t = pick (eqb (size ps) 0) (same t one) (fits_from (size ps) zero ps t)
+  fits (pat_row ps) t = pick (eqb (size ps) 0) (same t one) (fits_from (size ps) zero ps t)
 
   -- in a row of n patterns, those from element k on
   pub fits_from : ℕ → ℕ → Pats → Ty → Bool
-  fits_from n k noPats t = true
-  fits_from n k (morePats p ps) t = both (elim (place_of products n k t) [ some s ↦ fits p s | none ↦ false ]) (fits_from n (suc k) ps t)
+  fits_from n k no_pats t = true
+  fits_from n k (more_pats p ps) t = both (elim (place_of products n k t) [ some s ↦ fits p s | none ↦ false ]) (fits_from n (suc k) ps t)
 
 -- document 01, Refusal 14: the names of a pattern, from the left; of a parameter list; one that stands twice
 unfoldable mutual
   pub names : Pat → List ℕ
   names (name x) = x ∷ []
   names ignore = []
-  names (patRow ps) = names_row ps
+  names (pat_row ps) = names_row ps
 
   pub names_row : Pats → List ℕ
-  names_row noPats = []
-  names_row (morePats p ps) = names p ++ names_row ps
+  names_row no_pats = []
+  names_row (more_pats p ps) = names p ++ names_row ps
 
 unfoldable pub param_names : List Param → List ℕ
 param_names [] = []

@@ -71,7 +71,7 @@ fn mark(p: usize, t: usize, memo: &mut [u32])
 }
 
 // Whether a pattern fits a type. What is found to fit is kept for later questions; what does not fit ends them all.
-#[cycle(fits_fits_row)]
+#[cycle(fitting)]
 pub fn fits(book: &[u8], index: &[u16], p: u16, t: u16, memo: &mut [u32]) -> bool
     requires { (Stands book.now index.now p PATTERN) × ((Stands book.now index.now t TYPE) × (Known book.now index.now memo.old)) }
     ensures { Fitted book.now index.now (fits (pattern_of book.now index.now p) (type_of book.now index.now t)) result memo.new }
@@ -90,7 +90,7 @@ pub fn fits(book: &[u8], index: &[u16], p: u16, t: u16, memo: &mut [u32]) -> boo
 }
 
 // The same for a row: each element fits the type at its place.
-#[cycle(fits_fits_row)]
+#[cycle(fitting)]
 fn fits_row(book: &[u8], index: &[u16], p: u16, t: u16, memo: &mut [u32]) -> bool
     requires { (Stands book.now index.now p PATTERN) × ((mark book.now index.now p ≡ PT) × ((Stands book.now index.now t TYPE) × (Known book.now index.now memo.old))) }
     ensures { Fitted book.now index.now (fits (pattern_of book.now index.now p) (type_of book.now index.now t)) result memo.new }
@@ -136,7 +136,7 @@ fn note(name: u16, met: &mut [u16], stamp: u16) -> Noted
 
 // Meets the names of a pattern: `nameless` has a 1 for each record that was found to have none. A record with names that is met
 // again leads straight to a name that was met.
-#[cycle(note_all_note_row)]
+#[cycle(noting)]
 fn note_all(
     book: &[u8],
     index: &[u16],
@@ -163,7 +163,7 @@ fn note_all(
 }
 
 // The same for a row: its elements one after another.
-#[cycle(note_all_note_row)]
+#[cycle(noting)]
 fn note_row(
     book: &[u8],
     index: &[u16],
@@ -323,7 +323,7 @@ pub fn doubles(book: &[u8], index: &[u16], n: u16, doubled: &mut [u8])
 
 // The type of a name in a pattern that fits a type, at its first place from the left. `missing` has a 1 for each record in which this
 // name was already sought in vain.
-#[cycle(type_in_type_in_row)]
+#[cycle(sighting)]
 fn type_in(book: &[u8], index: &[u16], p: u16, t: u16, name: u16, missing: &mut [u8]) -> u16
     requires { (Binds book.now index.now p t) × (Memo book.now index.now name missing.old) }
     ensures { Sights book.now index.now name (pattern_of book.now index.now p) (type_of book.now index.now t) result missing.new }
@@ -361,7 +361,7 @@ fn may_have(book: &[u8], index: &[u16], p: u16, name: u16, missing: &[u8]) -> bo
 }
 
 // The same for a row: its elements one after another, each with the type at its place.
-#[cycle(type_in_type_in_row)]
+#[cycle(sighting)]
 fn type_in_row(book: &[u8], index: &[u16], p: u16, t: u16, name: u16, missing: &mut [u8]) -> u16
     requires { (Binds book.now index.now p t) × ((mark book.now index.now p ≡ PT) × (Memo book.now index.now name missing.old)) }
     ensures { Sights book.now index.now name (pattern_of book.now index.now p) (type_of book.now index.now t) result missing.new }

@@ -12,7 +12,7 @@ use lib.ListN.{get_or}
 use Rattle.laws.specs.Table.{pick, Case, at, choose}
 use Rattle.book.specs.Format.{role_of, total_of, EXPRESSION, PT, ET, EL, EN, EB, EH, CJ, CF, CH, FN}
 use Rattle.book.specs.Read.{names}
-use Rattle.book.specs.Tree.{noPats, morePats, patRow, param, tuple, list, variant, block, matchEnum, jet, call, hash, noExprs, moreExprs, noArms, moreArms, noParts, moreParts, end, noEnd, fun, Tree, pattern, expression, function, nothing, as_type, as_pattern, as_expr, as_stmt, as_fun, group, pats_at, exprs_at, arms_at, parts_at, params_at, last_at, stmts_at, Maker, makers, maker}
+use Rattle.book.specs.Tree.{no_pats, more_pats, pat_row, param, tuple, list, variant, block, match_enum, jet, call, hash, no_exprs, more_exprs, no_arms, more_arms, no_parts, more_parts, end, no_end, fun, Tree, pattern, expression, function, nothing, as_type, as_pattern, as_expr, as_stmt, as_fun, group, pats_at, exprs_at, arms_at, parts_at, params_at, last_at, stmts_at, Maker, makers, maker}
 use Rattle.book.proofs.Roles.{layout, counted, is_kind, kind_some, names_kind, each_role, each_inside, last_role, last_inside}
 use Rattle.book.specs.declared.format.Layout.{Layout}
 
@@ -76,7 +76,7 @@ module _ (l : Layout) (n : ℕ) (x : ℕ → ℕ) where
 
   -- a group of expressions is kept
   exprs_kept : (a : ℕ → Tree) → l.eachs ≡ 1 → T (is_kind (get_or l.each 0 0)) → exprs_at a l.heads n ≡ exprs_at (kept l n x a) l.heads n
-  exprs_kept a one t = group_same 1 noExprs _ _ l.heads n (λ q h. ap (λ w. moreExprs (as_expr w)) (each_kept a _ q 0 (rw one (omega arith)) h (rw one (lit< tt)) t))
+  exprs_kept a one t = group_same 1 no_exprs _ _ l.heads n (λ q h. ap (λ w. more_exprs (as_expr w)) (each_kept a _ q 0 (rw one (omega arith)) h (rw one (lit< tt)) t))
 
 -- P holds at each entry of a table
 data Every {A : Type 0} (P : ℕ → A → Type 0) : List (Case A) → Type 0 where
@@ -104,16 +104,16 @@ by_parts_lem h = fun_ext (λ r. fun_ext (λ x. fun_ext (λ a. h r x a)))
 -- the groups of pt, eh, ch, fn and eb, the end of eb, the body of fn
 module _ (x : ℕ → ℕ) (a : ℕ → Tree) where
   pats_kept : pats_at a 1 (x 0) ≡ pats_at (kept (layout PT) (x 0) x a) 1 (x 0)
-  pats_kept = group_same 1 noPats _ _ 1 (x 0) (λ q h. ap (λ w. morePats (as_pattern w)) (each_kept (layout PT) (x 0) x a _ q 0 (omega arith) h (lit< tt) tt))
+  pats_kept = group_same 1 no_pats _ _ 1 (x 0) (λ q h. ap (λ w. more_pats (as_pattern w)) (each_kept (layout PT) (x 0) x a _ q 0 (omega arith) h (lit< tt) tt))
 
   arms_kept : arms_at a 3 (x 2) ≡ arms_at (kept (layout EH) (x 2) x a) 3 (x 2)
   arms_kept =
-      group_same 2 noArms _ _ 3 (x 2) (λ q h. ap₂ (λ w z. moreArms (as_pattern w) (as_expr z))
+      group_same 2 no_arms _ _ 3 (x 2) (λ q h. ap₂ (λ w z. more_arms (as_pattern w) (as_expr z))
       (each_kept (layout EH) (x 2) x a _ q 0 (omega arith) h (lit< tt) tt)
       (each_kept (layout EH) (x 2) x a _ q 1 (omega arith) h (lit< tt) tt))
 
   parts_kept : parts_at x a 3 (x 2) ≡ parts_at x (kept (layout CH) (x 2) x a) 3 (x 2)
-  parts_kept = group_same 2 noParts _ _ 3 (x 2) (λ q h. ap (λ w. moreParts (x (3 + q * 2)) (as_expr w)) (each_kept (layout CH) (x 2) x a _ q 1 (omega arith) h (lit< tt) tt))
+  parts_kept = group_same 2 no_parts _ _ 3 (x 2) (λ q h. ap (λ w. more_parts (x (3 + q * 2)) (as_expr w)) (each_kept (layout CH) (x 2) x a _ q 1 (omega arith) h (lit< tt) tt))
 
   params_kept : params_at x a 2 (x 1) ≡ params_at x (kept (layout FN) (x 1) x a) 2 (x 1)
   params_kept = group_same 2 [] _ _ 2 (x 1) (λ q h. ap (λ w ps. param (x (2 + q * 2)) (as_type w) ∷ ps) (each_kept (layout FN) (x 1) x a _ q 1 (omega arith) h (lit< tt) tt))
@@ -122,7 +122,7 @@ module _ (x : ℕ → ℕ) (a : ℕ → Tree) where
   unfolding names
   end_kept = rw (last_kept (layout EB) (x 1) x a (2 + x 1) (omega arith) (λ z. omega arith)) (go (eqb (x (2 + x 1)) 65535) (a (2 + x 1)))
     where
-      go : (t : Bool) (y : Tree) → pick t noEnd (end (as_expr y)) ≡ pick t noEnd (end (as_expr (pick (eqb (pick t 0 EXPRESSION) 0) nothing y)))
+      go : (t : Bool) (y : Tree) → pick t no_end (end (as_expr y)) ≡ pick t no_end (end (as_expr (pick (eqb (pick t 0 EXPRESSION) 0) nothing y)))
       go true y = refl
       go false y = refl
 
@@ -141,7 +141,7 @@ unfolding names role_of
 keeps =
     -- tu, ts, tp, vu, vl, vr, vp, pi, pn
     refl & refl & refl & refl & refl & refl & refl & refl & refl
-    & by_parts_lem (λ r x a. ap (λ w. pattern (patRow w)) (pats_kept x a))
+    & by_parts_lem (λ r x a. ap (λ w. pattern (pat_row w)) (pats_kept x a))
     -- ec, ew, ev
     & refl & refl & refl
     & by_parts_lem (λ r x a. ap (λ w. expression (tuple r (as_type (a 0)) w)) (exprs_kept (layout ET) (x 1) x a refl tt))
@@ -152,7 +152,7 @@ keeps =
     & by_parts_lem (λ r x a. ap (λ w. expression (block r (as_type (a 0)) w)) (stmts_kept x a))
     -- sa, se, em
     & refl & refl & refl
-    & by_parts_lem (λ r x a. ap (λ w. expression (matchEnum r (as_type (a 0)) (as_expr (a 1)) w)) (arms_kept x a))
+    & by_parts_lem (λ r x a. ap (λ w. expression (match_enum r (as_type (a 0)) (as_expr (a 1)) w)) (arms_kept x a))
     & by_parts_lem (λ r x a. ap (λ w. expression (jet r (as_type (a 0)) (x 1) (x 2) w)) (exprs_kept (layout CJ) (x 3) x a refl tt))
     -- cl, cr, cd, ca, cp, cn, ck
     & refl & refl & refl & refl & refl & refl & refl

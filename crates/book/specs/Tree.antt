@@ -12,11 +12,11 @@ mutual
   pub data Pat : Type 0 where
     name : ℕ → Pat
     ignore : Pat
-    patRow : Pats → Pat
+    pat_row : Pats → Pat
 
   pub data Pats : Type 0 where
-    noPats : Pats
-    morePats : Pat → Pats → Pats
+    no_pats : Pats
+    more_pats : Pat → Pats → Pats
 
 -- a function's parameter: its name and type
 pub record Param : Type 0 where
@@ -37,14 +37,14 @@ mutual
     tuple : ℕ → Ty → Exprs → Expr
     -- the bound
     list : ℕ → Ty → ℕ → Exprs → Expr
-    inLeft : ℕ → Ty → Expr → Expr
-    inRight : ℕ → Ty → Expr → Expr
+    in_left : ℕ → Ty → Expr → Expr
+    in_right : ℕ → Ty → Expr → Expr
     -- the index, how many variants, the payload
     variant : ℕ → Ty → ℕ → ℕ → Exprs → Expr
     block : ℕ → Ty → Stmts → Expr
     -- the scrutinee, the left arm, the right arm
     match : ℕ → Ty → Expr → Pat → Expr → Pat → Expr → Expr
-    matchEnum : ℕ → Ty → Expr → Arms → Expr
+    match_enum : ℕ → Ty → Expr → Arms → Expr
     -- the symbol, the jet
     jet : ℕ → Ty → ℕ → ℕ → Exprs → Expr
     -- the symbol
@@ -64,29 +64,29 @@ mutual
     -- the symbol
     hash : ℕ → Ty → ℕ → Parts → Expr
     -- where there should be an expression and is none
-    noExpr : Expr
+    no_expr : Expr
 
   -- expressions in a row
   pub data Exprs : Type 0 where
-    noExprs : Exprs
-    moreExprs : Expr → Exprs → Exprs
+    no_exprs : Exprs
+    more_exprs : Expr → Exprs → Exprs
 
   -- the arms of an enum's match: a pattern and an expression
   pub data Arms : Type 0 where
-    noArms : Arms
-    moreArms : Pat → Expr → Arms → Arms
+    no_arms : Arms
+    more_arms : Pat → Expr → Arms → Arms
 
   -- what a hash is of: a bit width and an expression
   pub data Parts : Type 0 where
-    noParts : Parts
-    moreParts : ℕ → Expr → Parts → Parts
+    no_parts : Parts
+    more_parts : ℕ → Expr → Parts → Parts
 
   -- a block's statements, each with its record's number: an assignment, an expression that is only worked out; then its end
   pub data Stmts : Type 0 where
     assign : ℕ → Pat → Expr → Stmts → Stmts
     does : ℕ → Expr → Stmts → Stmts
     end : Expr → Stmts
-    noEnd : Stmts
+    no_end : Stmts
 
   -- a function with its record's number: the result's type, the parameters, the body
   pub data Fun : Type 0 where
@@ -104,7 +104,7 @@ pub data Tree : Type 0 where
 
 -- where there should be a function and is none
 abbrev no_fun : Fun
-no_fun = fun 0 one [] noExpr
+no_fun = fun 0 one [] no_expr
 
 -- a tree as what it should be; a value's declared type
 unfoldable pub as_type : Tree → Ty
@@ -120,7 +120,7 @@ unfoldable pub as_pattern : Tree → Pat
 as_pattern = elim [ type t ↦ ignore | value t v ↦ ignore | pattern p ↦ p | expression e ↦ ignore | statement s ↦ ignore | function f ↦ ignore | nothing ↦ ignore ]
 
 unfoldable pub as_expr : Tree → Expr
-as_expr = elim [ type t ↦ noExpr | value t v ↦ noExpr | pattern p ↦ noExpr | expression e ↦ e | statement s ↦ noExpr | function f ↦ noExpr | nothing ↦ noExpr ]
+as_expr = elim [ type t ↦ no_expr | value t v ↦ no_expr | pattern p ↦ no_expr | expression e ↦ e | statement s ↦ no_expr | function f ↦ no_expr | nothing ↦ no_expr ]
 
 unfoldable pub as_stmt : Tree → Stmts → Stmts
 as_stmt = elim [ type t ↦ λ ss. ss | value t v ↦ λ ss. ss | pattern p ↦ λ ss. ss | expression e ↦ λ ss. ss | statement s ↦ s | function f ↦ λ ss. ss | nothing ↦ λ ss. ss ]
@@ -135,23 +135,23 @@ group s e add k (suc m) = add k (group s e add (k + s) m)
 
 -- what stands m times from field k on, in a record whose fields name the trees a and hold the numbers x
 abbrev pub pats_at : (ℕ → Tree) → ℕ → ℕ → Pats
-pats_at a = group 1 noPats (λ j. morePats (as_pattern (a j)))
+pats_at a = group 1 no_pats (λ j. more_pats (as_pattern (a j)))
 
 abbrev pub exprs_at : (ℕ → Tree) → ℕ → ℕ → Exprs
-exprs_at a = group 1 noExprs (λ j. moreExprs (as_expr (a j)))
+exprs_at a = group 1 no_exprs (λ j. more_exprs (as_expr (a j)))
 
 abbrev pub arms_at : (ℕ → Tree) → ℕ → ℕ → Arms
-arms_at a = group 2 noArms (λ j. moreArms (as_pattern (a j)) (as_expr (a (j + 1))))
+arms_at a = group 2 no_arms (λ j. more_arms (as_pattern (a j)) (as_expr (a (j + 1))))
 
 abbrev pub parts_at : (ℕ → ℕ) → (ℕ → Tree) → ℕ → ℕ → Parts
-parts_at x a = group 2 noParts (λ j. moreParts (x j) (as_expr (a (j + 1))))
+parts_at x a = group 2 no_parts (λ j. more_parts (x j) (as_expr (a (j + 1))))
 
 abbrev pub params_at : (ℕ → ℕ) → (ℕ → Tree) → ℕ → ℕ → List Param
 params_at x a = group 2 [] (λ j ps. param (x j) (as_type (a (j + 1))) ∷ ps)
 
 -- document 01, The book, eb: an expression or 65535 for none
 abbrev pub last_at : (ℕ → ℕ) → (ℕ → Tree) → ℕ → Stmts
-last_at x a k = pick (eqb (x k) 65535) noEnd (end (as_expr (a k)))
+last_at x a k = pick (eqb (x k) 65535) no_end (end (as_expr (a k)))
 
 -- a block's statements and its end
 abbrev pub stmts_at : (ℕ → ℕ) → (ℕ → Tree) → ℕ → ℕ → Stmts
@@ -173,20 +173,20 @@ makers =
     ∷ at VP (λ r x a. value (as_type (a 0)) (pair (as_value (a 1)) (as_value (a 2))))
     ∷ at PI (λ r x a. pattern (name (x 0)))
     ∷ at PN (λ r x a. pattern ignore)
-    ∷ at PT (λ r x a. pattern (patRow (pats_at a 1 (x 0))))
+    ∷ at PT (λ r x a. pattern (pat_row (pats_at a 1 (x 0))))
     ∷ at EC (λ r x a. expression (constant r (as_type (a 0)) (x 1) (declared (a 1)) (as_value (a 1))))
     ∷ at EW (λ r x a. expression (witness r (as_type (a 0)) (x 0) (x 1)))
     ∷ at EV (λ r x a. expression (variable r (as_type (a 0)) (x 1)))
     ∷ at ET (λ r x a. expression (tuple r (as_type (a 0)) (exprs_at a 2 (x 1))))
     ∷ at EL (λ r x a. expression (list r (as_type (a 0)) (x 1) (exprs_at a 3 (x 2))))
-    ∷ at E0 (λ r x a. expression (inLeft r (as_type (a 0)) (as_expr (a 1))))
-    ∷ at E1 (λ r x a. expression (inRight r (as_type (a 0)) (as_expr (a 1))))
+    ∷ at E0 (λ r x a. expression (in_left r (as_type (a 0)) (as_expr (a 1))))
+    ∷ at E1 (λ r x a. expression (in_right r (as_type (a 0)) (as_expr (a 1))))
     ∷ at EN (λ r x a. expression (variant r (as_type (a 0)) (x 1) (x 2) (exprs_at a 4 (x 3))))
     ∷ at EB (λ r x a. expression (block r (as_type (a 0)) (stmts_at x a 2 (x 1))))
     ∷ at SA (λ r x a. statement (assign r (as_pattern (a 0)) (as_expr (a 1))))
     ∷ at SE (λ r x a. statement (does r (as_expr (a 0))))
     ∷ at EM (λ r x a. expression (match r (as_type (a 0)) (as_expr (a 1)) (as_pattern (a 2)) (as_expr (a 3)) (as_pattern (a 4)) (as_expr (a 5))))
-    ∷ at EH (λ r x a. expression (matchEnum r (as_type (a 0)) (as_expr (a 1)) (arms_at a 3 (x 2))))
+    ∷ at EH (λ r x a. expression (match_enum r (as_type (a 0)) (as_expr (a 1)) (arms_at a 3 (x 2))))
     ∷ at CJ (λ r x a. expression (jet r (as_type (a 0)) (x 1) (x 2) (exprs_at a 4 (x 3))))
     ∷ at CL (λ r x a. expression (unwrap_left r (as_type (a 0)) (x 1) (as_expr (a 2))))
     ∷ at CR (λ r x a. expression (unwrap_right r (as_type (a 0)) (x 1) (as_expr (a 2))))

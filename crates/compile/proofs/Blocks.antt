@@ -13,7 +13,7 @@ use lib.Dec.{eqb, ltb}
 use Rattle.book.specs.Format.{STATEMENT, SA}
 use Rattle.book.specs.Index.{mark, field}
 use Rattle.book.specs.Stands.{Stands}
-use Rattle.book.specs.Tree.{Pat, tree, as_stmt, group}
+use Rattle.book.specs.Tree.{Pat, tree, as_stmt, group, last_at}
 use Rattle.book.specs.declared.fault.Refusal.{Refusal}
 use Rattle.named.specs.Trace.{bind, bindings}
 use Rattle.named.specs.Draws.{Done, Fate}
@@ -29,7 +29,7 @@ use Rattle.compile.proofs.Shapes.{stmt_is}
 -- the statements of a block from field j on: the first, and the rest
 stmts_next : (b i : List ℕ) (r j n l : ℕ) → n ≡ suc l → stmts_of b i r j n ≡ as_stmt (tree b i (field b i r j)) (stmts_of b i r (j + 1) l)
 unfolding stmts_of group
-stmts_next b i r j n l e = let z : j + suc l ≡ j + 1 + l = omega arith in rw (e, z)
+stmts_next b i r j n l e = let z : j + suc l ≡ j + 1 + l = omega arith in rw e (ap (λ q. as_stmt (tree b i (field b i r j)) (group 1 (last_at (field b i r) (λ k. tree b i (field b i r k)) q) (λ k. as_stmt (tree b i (field b i r k))) (j + 1) l)) z)
 
 -- nodes from place k on don't matter to the first k statements
 close_past : (b i : List ℕ) (r : ℕ) (xs : List ℕ) (k j a : ℕ) → j ≤ k → (e : ℕ) → close_all b i r (set xs k a) j e ≡ close_all b i r xs j e

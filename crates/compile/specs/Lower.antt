@@ -4,7 +4,7 @@ use Rattle.std.specs.Prelude.{ℕ, Bool, List, [], ◌∷◌, length, ltb}
 use Rattle.laws.specs.Table.{pick}
 use Rattle.array.specs.Split.{top_of}
 use Rattle.array.specs.Path.{path}
-use Rattle.book.specs.Tree.{Pat, Expr, constant, witness, variable, tuple, list, inLeft, inRight, variant, block, match, matchEnum, jet, unwrap_left, unwrap_right, debug, assert, panic, is_none, cast, call, list_fold, array_fold, for_while, hash, noExpr, Exprs, noExprs, moreExprs, Arms, noArms, moreArms, Parts, noParts, moreParts, Stmts, assign, does, end, noEnd, Fun, fun}
+use Rattle.book.specs.Tree.{Pat, Expr, constant, witness, variable, tuple, list, in_left, in_right, variant, block, match, match_enum, jet, unwrap_left, unwrap_right, debug, assert, panic, is_none, cast, call, list_fold, array_fold, for_while, hash, no_expr, Exprs, no_exprs, more_exprs, Arms, no_arms, more_arms, Parts, no_parts, more_parts, Stmts, assign, does, end, no_end, Fun, fun}
 use Rattle.named.specs.Trace.{Run, pure, bind, stop, bindings}
 use Rattle.named.specs.Combinators as node
 use Rattle.pattern.specs.Find.{params_pattern}
@@ -29,8 +29,8 @@ called y r s args body = bind args (λ a. bind body (λ b. finished y r s a b))
 
 -- the bit widths of a hash's words
 unfoldable pub widths : Parts → List ℕ
-widths noParts = []
-widths (moreParts w e ps) = w ∷ widths ps
+widths no_parts = []
+widths (more_parts w e ps) = w ∷ widths ps
 
 -- what is lowered in a scope, whose newest binding comes first; y says whether symbols are asked for
 unfoldable mutual
@@ -42,8 +42,8 @@ unfoldable mutual
   -- Balanced trees: a row's or list's elements, then what joins them; a variant is its payload along its path
   lower y (tuple r t es) sc = bind (lowers y es sc) (λ xs. node.joins r node.PAIR xs)
   lower y (list r t n es) sc = bind (lowers y es sc) (λ xs. listed r n xs)
-  lower y (inLeft r t e) sc = bind (lower y e sc) (λ a. node.injl r a)
-  lower y (inRight r t e) sc = bind (lower y e sc) (λ a. node.injr r a)
+  lower y (in_left r t e) sc = bind (lower y e sc) (λ a. node.injl r a)
+  lower y (in_right r t e) sc = bind (lower y e sc) (λ a. node.injr r a)
   lower y (variant r t k n es) sc = bind (bind (lowers y es sc) (λ xs. node.joins r node.PAIR xs)) (λ a. node.wraps r (node.kinds node.INJL node.INJR (path n k)) a)
   -- a block is its statements and its end
   lower y (block r t ss) sc = statements y r ss sc
@@ -52,7 +52,7 @@ unfoldable mutual
       bind (binding r sc (lower y l (p ∷ sc))) (λ a.
       bind (binding r sc (lower y g (q ∷ sc))) (λ b.
       bind (lower y e sc) (λ s. matched r s a b)))
-  lower y (matchEnum r t e cs) sc =
+  lower y (match_enum r t e cs) sc =
       bind (arms y r cs sc) (λ xs.
       bind (node.joins r node.CASE xs) (λ k.
       bind (lower y e sc) (λ s. chosen r s k)))
@@ -72,29 +72,29 @@ unfoldable mutual
   lower y (for_while r t f w a x) sc = called y r 0 (node.joined (node.pair r) (lower y a sc) (lower y x sc)) (bind (body y f) (λ g. loops.for_while r (top_of w) g))
   lower y (hash r t s ps) sc = called y r s (bind (words y ps sc) (λ xs. node.joins r node.PAIR xs)) (hashes.raw_hash r (widths ps))
   -- what no book that READ accepts has
-  lower y noExpr sc = pure 0
+  lower y no_expr sc = pure 0
 
   -- document 01, Stored order: a row's elements all precede what joins them
   pub lowers : Bool → Exprs → List Pat → Run (List ℕ)
-  lowers y noExprs sc = pure []
-  lowers y (moreExprs e es) sc = bind (lower y e sc) (λ a. bind (lowers y es sc) (λ xs. pure (a ∷ xs)))
+  lowers y no_exprs sc = pure []
+  lowers y (more_exprs e es) sc = bind (lower y e sc) (λ a. bind (lowers y es sc) (λ xs. pure (a ∷ xs)))
 
   -- a hash's words are its arguments
   pub words : Bool → Parts → List Pat → Run (List ℕ)
-  words y noParts sc = pure []
-  words y (moreParts w e ps) sc = bind (lower y e sc) (λ a. bind (words y ps sc) (λ xs. pure (a ∷ xs)))
+  words y no_parts sc = pure []
+  words y (more_parts w e ps) sc = bind (lower y e sc) (λ a. bind (words y ps sc) (λ xs. pure (a ∷ xs)))
 
   -- the arms of an enum's match
   pub arms : Bool → ℕ → Arms → List Pat → Run (List ℕ)
-  arms y r noArms sc = pure []
-  arms y r (moreArms p e cs) sc = bind (binding r sc (lower y e (p ∷ sc))) (λ a. bind (arms y r cs sc) (λ xs. pure (a ∷ xs)))
+  arms y r no_arms sc = pure []
+  arms y r (more_arms p e cs) sc = bind (binding r sc (lower y e (p ∷ sc))) (λ a. bind (arms y r cs sc) (λ xs. pure (a ∷ xs)))
 
   -- document 01, Stored order: assignment: e, binding, iden, pair, rest, comp. Statement e: e, rest, pair, iden, drop, comp. Empty end: unit
   pub statements : Bool → ℕ → Stmts → List Pat → Run ℕ
   statements y r (assign s p e rest) sc = bind (lower y e sc) (λ a. binding s sc (bind (calls.paired s a) (λ i. bind (statements y r rest (p ∷ sc)) (λ b. node.comp s i b))))
   statements y r (does s e rest) sc = bind (lower y e sc) (λ a. bind (statements y r rest sc) (λ b. calls.followed s a b))
   statements y r (end e) sc = lower y e sc
-  statements y r noEnd sc = node.unit r
+  statements y r no_end sc = node.unit r
 
   -- document 01, Scope: a function's scope starts with its parameter tuple only
   pub body : Bool → Fun → Run ℕ

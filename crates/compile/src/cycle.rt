@@ -26,7 +26,7 @@ use recipes::calls::paired;
 use scope_bindings::{ScopeBindings, copied, from_root, get, insert};
 
 // The expression of record r, in a scope that is lent: its row, and how many of its entries are bindings.
-#[cycle(arm_begin_block_body_call_choose_complete_element_elements_end_expression_from_row_function_row_second_arm_two_arms)]
+#[cycle(lowering)]
 pub fn expression(
     book: &[u8],
     index: &[u16],
@@ -74,7 +74,7 @@ fn variable(
 }
 
 // An expression that has a row of elements: the row, and then what its mark makes of it.
-#[cycle(arm_begin_block_body_call_choose_complete_element_elements_end_expression_from_row_function_row_second_arm_two_arms)]
+#[cycle(lowering)]
 fn from_row(
     book: &[u8],
     index: &[u16],
@@ -98,7 +98,7 @@ fn from_row(
 }
 
 // The elements of a record, and what joins them.
-#[cycle(arm_begin_block_body_call_choose_complete_element_elements_end_expression_from_row_function_row_second_arm_two_arms)]
+#[cycle(lowering)]
 fn row(
     book: &[u8],
     index: &[u16],
@@ -124,7 +124,7 @@ fn row(
 }
 
 // The elements one after another; their nodes go into a row.
-#[cycle(arm_begin_block_body_call_choose_complete_element_elements_end_expression_from_row_function_row_second_arm_two_arms)]
+#[cycle(lowering)]
 fn elements(
     book: &[u8],
     index: &[u16],
@@ -161,7 +161,7 @@ fn elements(
 }
 
 // The element at field j: an arm of an enum's match has its pattern before it.
-#[cycle(arm_begin_block_body_call_choose_complete_element_elements_end_expression_from_row_function_row_second_arm_two_arms)]
+#[cycle(lowering)]
 fn element(
     book: &[u8],
     index: &[u16],
@@ -188,7 +188,7 @@ fn element(
 }
 
 // An arm of a match: its expression, where its pattern is bound.
-#[cycle(arm_begin_block_body_call_choose_complete_element_elements_end_expression_from_row_function_row_second_arm_two_arms)]
+#[cycle(lowering)]
 fn arm(
     book: &[u8],
     index: &[u16],
@@ -224,7 +224,7 @@ fn arm(
 }
 
 // What an expression makes of its row's node: an enum's match, a call, or a wrap.
-#[cycle(arm_begin_block_body_call_choose_complete_element_elements_end_expression_from_row_function_row_second_arm_two_arms)]
+#[cycle(lowering)]
 fn complete(
     book: &[u8],
     index: &[u16],
@@ -250,7 +250,7 @@ fn complete(
 }
 
 // An enum's match, after its tree of cases: the scrutinee, beside the environment.
-#[cycle(arm_begin_block_body_call_choose_complete_element_elements_end_expression_from_row_function_row_second_arm_two_arms)]
+#[cycle(lowering)]
 fn choose(
     book: &[u8],
     index: &[u16],
@@ -273,7 +273,7 @@ fn choose(
 }
 
 // A call, after its arguments: its body, and then what joins them.
-#[cycle(arm_begin_block_body_call_choose_complete_element_elements_end_expression_from_row_function_row_second_arm_two_arms)]
+#[cycle(lowering)]
 fn call(
     book: &[u8],
     index: &[u16],
@@ -296,7 +296,7 @@ fn call(
 }
 
 // The body of a call.
-#[cycle(arm_begin_block_body_call_choose_complete_element_elements_end_expression_from_row_function_row_second_arm_two_arms)]
+#[cycle(lowering)]
 fn body(
     book: &[u8],
     index: &[u16],
@@ -320,7 +320,7 @@ fn body(
 }
 
 // A function's body, lowered anew for each call, in a scope of its parameters only.
-#[cycle(arm_begin_block_body_call_choose_complete_element_elements_end_expression_from_row_function_row_second_arm_two_arms)]
+#[cycle(lowering)]
 fn function(
     book: &[u8],
     index: &[u16],
@@ -348,7 +348,7 @@ fn function(
 }
 
 // A match of two arms: both arms, and then the scrutinee and the case.
-#[cycle(arm_begin_block_body_call_choose_complete_element_elements_end_expression_from_row_function_row_second_arm_two_arms)]
+#[cycle(lowering)]
 fn two_arms(
     book: &[u8],
     index: &[u16],
@@ -383,7 +383,7 @@ fn two_arms(
 }
 
 // A match after its left arm.
-#[cycle(arm_begin_block_body_call_choose_complete_element_elements_end_expression_from_row_function_row_second_arm_two_arms)]
+#[cycle(lowering)]
 fn second_arm(
     book: &[u8],
     index: &[u16],
@@ -423,7 +423,7 @@ fn second_arm(
 }
 
 // A block: its statements begun in order, its end, and the statements ended from the last on.
-#[cycle(arm_begin_block_body_call_choose_complete_element_elements_end_expression_from_row_function_row_second_arm_two_arms)]
+#[cycle(lowering)]
 fn block(
     book: &[u8],
     index: &[u16],
@@ -465,7 +465,7 @@ fn block(
 }
 
 // The end of a block: an expression, or unit where there is none.
-#[cycle(arm_begin_block_body_call_choose_complete_element_elements_end_expression_from_row_function_row_second_arm_two_arms)]
+#[cycle(lowering)]
 fn end(
     book: &[u8],
     index: &[u16],
@@ -488,7 +488,7 @@ fn end(
 }
 
 // A statement, up to the rest of its block.
-#[cycle(arm_begin_block_body_call_choose_complete_element_elements_end_expression_from_row_function_row_second_arm_two_arms)]
+#[cycle(lowering)]
 fn begin(
     book: &[u8],
     index: &[u16],

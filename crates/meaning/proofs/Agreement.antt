@@ -20,7 +20,7 @@ use Rattle.simplicity.specs.Meaning.{Witnesses, eval}
 use Rattle.simplicity.specs.Typing.{Has}
 use Rattle.simplicity.proofs.Safe.{same_is}
 use Rattle.book.proofs.Picks.{both_true}
-use Rattle.book.specs.Tree.{Pat, Expr, constant, witness, variable, tuple, list, inLeft, inRight, variant, block, match, matchEnum, jet, unwrap_left, unwrap_right, debug, assert, panic, is_none, cast, call, list_fold, array_fold, for_while, hash, noExpr, Exprs, noExprs, moreExprs, Arms, noArms, moreArms, Parts, noParts, moreParts, Stmts, assign, does, end, noEnd, Fun, fun}
+use Rattle.book.specs.Tree.{Pat, Expr, constant, witness, variable, tuple, list, in_left, in_right, variant, block, match, match_enum, jet, unwrap_left, unwrap_right, debug, assert, panic, is_none, cast, call, list_fold, array_fold, for_while, hash, no_expr, Exprs, no_exprs, more_exprs, Arms, no_arms, more_arms, Parts, no_parts, more_parts, Stmts, assign, does, end, no_end, Fun, fun}
 use Rattle.compile.specs.Lower.{widths}
 use Rattle.shapes.specs.Shapes.{type_is, types, arm_types, end_type, takes, gives, whole, all_are, row_type}
 use Rattle.binders.specs.Binders.{Binding, binding, scope_in}
@@ -96,13 +96,13 @@ within n l b h =
 
 -- the types of a hash's words; an arm's meaning for each arm
 unfoldable word_types : Parts → List Ty
-word_types noParts = []
-word_types (moreParts w e ps) = type_is e ∷ word_types ps
+word_types no_parts = []
+word_types (more_parts w e ps) = type_is e ∷ word_types ps
 
 pub arms_count : (ws : Witnesses) (cs : Arms) (env : List Held) → length (arms ws cs env) ≡ arm_count cs
 unfolding mean arm_count
-arms_count ws noArms env = refl
-arms_count ws (moreArms p e cs) env = ap suc (arms_count ws cs env)
+arms_count ws no_arms env = refl
+arms_count ws (more_arms p e cs) env = ap suc (arms_count ws cs env)
 
 -- each witness is given and of its type; y says whether symbols are asked for
 module _ {M : Type 0} {ws : Witnesses} (C : ℕ → Value → Type 0) (W : Ty → ℕ → ℕ → Type 0) (has : (t : Ty) (k x : ℕ) → W t k x → Has (ws x t) t) (y : Bool) where
@@ -117,8 +117,8 @@ module _ {M : Type 0} {ws : Witnesses} (C : ℕ → Value → Type 0) (W : Ty �
     agree (list r t n es) m h s =
         let i = is_list n t (types es) _ h.1 in
         retyped (agree_list (top_of n - 1) i.0 (agree-all es m h.0 s.2) i.2 (within n _ s.0 s.1)) (sym i.1)
-    agree (inLeft r t e) m h s = let i = at_left t (type_is e) h.1 in retyped (agree_left (agree e m h.0 s)) (sym i.1)
-    agree (inRight r t e) m h s = let i = at_right t (type_is e) h.1 in retyped (agree_right (agree e m h.0 s)) (sym i.1)
+    agree (in_left r t e) m h s = let i = at_left t (type_is e) h.1 in retyped (agree_left (agree e m h.0 s)) (sym i.1)
+    agree (in_right r t e) m h s = let i = at_right t (type_is e) h.1 in retyped (agree_right (agree e m h.0 s)) (sym i.1)
     agree (variant r t k n es) m h s = agree_variant_row (path n k) t (is_variant n k t (row_type (types es)) h.1) (agree-all es m h.0 s.1)
     agree (block r t ss) m h s = retyped (agree-run ss m h.0 s) (same_is (end_type ss) t h.1)
     agree (match r t e p l q g) m h s =
@@ -128,7 +128,7 @@ module _ {M : Type 0} {ws : Witnesses} (C : ℕ → Value → Type 0) (W : Ty �
         (agree_match h.0
         (bound_agrees h.1 m (λ x names n. retyped (agree l n h.2 s.1) i.0))
         (bound_agrees h.3 m (λ x names n. retyped (agree g n h.4 s.2) j.0)))
-    agree (matchEnum r t e cs) m h s = agree_beside (agree e m h.2 s.1) (agree_match_enum (arm_count cs) (arms_count ws cs _) s.0 h.0 (agree-arms cs _ zero _ t m h.1 s.2 h.3))
+    agree (match_enum r t e cs) m h s = agree_beside (agree e m h.2 s.1) (agree_match_enum (arm_count cs) (arms_count ws cs _) s.0 h.0 (agree-arms cs _ zero _ t m h.1 s.2 h.3))
     agree (jet r t z j es) m h s =
         let i = both_true _ _ h.1 in
         retyped (agree_called_row y z (agree-all es m h.0 s.1) (λ vs o. agree_jet j s.0 (subst (AllOf vs) (same_all_lem (types es) _ i.0) o))) (sym (same_is t _ i.1))
@@ -163,19 +163,19 @@ module _ {M : Type 0} {ws : Witnesses} (C : ℕ → Value → Type 0) (W : Ty �
         (λ c z o q. looped w (top_of w) s.0 z (λ d n u l. retyped (turns d z n u q l) (i.gives ∙ i.sums)) c o))
         (sym i.sums)
     agree (hash r t z ps) m h s = agree_called_row y z (agree-words ps m h.0 s.1) (λ vs o. agree_hash s.0 (widths ps) (row_value vs) t)
-    agree noExpr m h s = absurd h
+    agree no_expr m h s = absurd h
 
     agree-all : (es : Exprs) {sc : List Binding} {v : Value} {env : List Held} → Matches sc v env → AllTyped sc es → Sounds C W M es → AgreesAll M ws v (compiles y es (patterns sc)) (means ws es env) (types es)
-    agree-all noExprs m h s = no_more
-    agree-all (moreExprs e es) m h s = and_more (agree e m h.0 s.0) (agree-all es m h.1 s.1)
+    agree-all no_exprs m h s = no_more
+    agree-all (more_exprs e es) m h s = and_more (agree e m h.0 s.0) (agree-all es m h.1 s.1)
 
     agree-words : (ps : Parts) {sc : List Binding} {v : Value} {env : List Held} → Matches sc v env → WordsTyped sc ps → SoundParts C W M ps → AgreesAll M ws v (compile_words y ps (patterns sc)) (words ws ps env) (word_types ps)
-    agree-words noParts m h s = no_more
-    agree-words (moreParts w e ps) m h s = and_more (agree e m h.0 s.0) (agree-words ps m h.1 s.1)
+    agree-words no_parts m h s = no_more
+    agree-words (more_parts w e ps) m h s = and_more (agree e m h.0 s.0) (agree-words ps m h.1 s.1)
 
     agree-arms : (cs : Arms) (n k : ℕ) (u t : Ty) {sc : List Binding} {v : Value} {env : List Held} → Matches sc v env → ArmsTyped n k u sc cs → SoundArms C W M cs → all_are t (arm_types cs) ≡ true → ArmsAgree M ws v n u t k (compile_arms y cs (patterns sc)) (arms ws cs env)
-    agree-arms noArms n k u t m h s e = no_arms
-    agree-arms (moreArms p e cs) n k u t m h s q =
+    agree-arms no_arms n k u t m h s e = no_arms
+    agree-arms (more_arms p e cs) n k u t m h s q =
         let i = all_are_lem t (type_is e) (arm_types cs) q in
         more_arms (bound_agrees h.0 m (λ x names l. retyped (agree e l h.1 s.0) i.0)) (agree-arms cs n (suc k) u t m h.2 s.1 i.1)
 
@@ -183,7 +183,7 @@ module _ {M : Type 0} {ws : Witnesses} (C : ℕ → Value → Type 0) (W : Ty �
     agree-run (assign z p e rest) m h s = agree_beside (agree e m h.0 s.0) (bound_agrees h.1 m (λ x names l. agree-run rest l h.2 s.1))
     agree-run (does z e rest) m h s = agree_followed (agree e m h.0 s.0) (agree-run rest m h.2 s.1)
     agree-run (end e) m h s = agree e m h s
-    agree-run noEnd m h s = agree_unit
+    agree-run no_end m h s = agree_unit
 
     serves : (f : Fun) → FunTyped f → SoundFun C W M f → (vs : List Value) → AllOf vs (takes f) → Agrees M ws (compile_fun y f) (row_value vs) (apply ws f vs) (gives f)
     serves (fun r t ps e) h s vs o = retyped (agree e (params_match ps vs o) h.1 s) h.2

@@ -17,7 +17,7 @@ use Rattle.simplicity.specs.Values.{Value, unit, pair, Of, of_unit, of_left, of_
 use Rattle.simplicity.specs.Outcomes.{Outcome, value, stuck}
 use Rattle.simplicity.specs.Meaning.{Witnesses, eval}
 use Rattle.book.proofs.Picks.{both_true}
-use Rattle.book.specs.Tree.{Pat, name, ignore, patRow, Pats, noPats, morePats, Param}
+use Rattle.book.specs.Tree.{Pat, name, ignore, pat_row, Pats, no_pats, more_pats, Param}
 use Rattle.pattern.specs.Find.{size, within, find, find_from, called, params_pattern}
 use Rattle.scope_bindings.specs.Scope as scope
 use Rattle.scope_bindings.specs.Scope.{reach, through, lookup_from}
@@ -62,10 +62,10 @@ onto (k ∷ ks) ls v e =
     rw (x.1, element_at) (onto ks ls x.0 x.2)
 
 -- a row fits where its elements do
-fits_row : (ps : Pats) (t : Ty) → fits (patRow ps) t ≡ true → fits_from (size ps) zero ps t ≡ true
+fits_row : (ps : Pats) (t : Ty) → fits (pat_row ps) t ≡ true → fits_from (size ps) zero ps t ≡ true
 unfolding fits size
-fits_row noPats t e = refl
-fits_row (morePats p ps) t e = rw (eqb-suc-zero (size ps)) at e
+fits_row no_pats t e = refl
+fits_row (more_pats p ps) t e = rw (eqb-suc-zero (size ps)) at e
 
 mutual
   unfolding fits bound
@@ -74,12 +74,12 @@ mutual
   pub fits_bound : (p : Pat) (t : Ty) (v : Value) → fits p t ≡ true → Of v t → (hs : List Held) × (bound p v ≡ some hs)
   fits_bound (name x) t v e h = (held x v ∷ [], refl)
   fits_bound ignore t v e h = ([], refl)
-  fits_bound (patRow ps) t v e h = fits_from_lem (size ps) zero ps t v (fits_row ps t e) h
+  fits_bound (pat_row ps) t v e h = fits_from_lem (size ps) zero ps t v (fits_row ps t e) h
 
   -- so do its elements from k of n on
   fits_from_lem : (n k : ℕ) (ps : Pats) (t : Ty) (v : Value) → fits_from n k ps t ≡ true → Of v t → (hs : List Held) × (bound_from n k ps v ≡ some hs)
-  fits_from_lem n k noPats t v e h = ([], refl)
-  fits_from_lem n k (morePats p ps) t v e h =
+  fits_from_lem n k no_pats t v e h = ([], refl)
+  fits_from_lem n k (more_pats p ps) t v e h =
       let b = both_true (elim (place_of products n k t) [ some s ↦ fits p s | none ↦ false ]) (fits_from n (suc k) ps t) e in
       let s = some_made (place_of products n k t) (fits p) (λ z. true_false (sym z)) b.0 in
       let w = along (path n k) s.1 h in
@@ -124,12 +124,12 @@ mutual
   sees : (p : Pat) (v : Value) {hs : List Held} (env : List Held) (x : ℕ) → bound p v ≡ some hs → lookup x (hs ++ env) ≡ seen (find x p) v (lookup x env)
   sees (name y) v env x e = rw (← (some-injective _ _ e)) (sees_name x y v env)
   sees ignore v env x e = rw (← (some-injective _ _ e))
-  sees (patRow ps) v env x e = sees_from (size ps) zero ps v env x e
+  sees (pat_row ps) v env x e = sees_from (size ps) zero ps v env x e
 
   -- so in the elements from k of n on
   sees_from : (n k : ℕ) (ps : Pats) (v : Value) {hs : List Held} (env : List Held) (x : ℕ) → bound_from n k ps v ≡ some hs → lookup x (hs ++ env) ≡ seen (find_from x n k ps) v (lookup x env)
-  sees_from n k noPats v env x e = rw (← (some-injective _ _ e))
-  sees_from n k (morePats p ps) v env x e =
+  sees_from n k no_pats v env x e = rw (← (some-injective _ _ e))
+  sees_from n k (more_pats p ps) v env x e =
       let b = together_both (elim (element_at (path n k) v) [ some w ↦ bound p w | none ↦ none ]) (bound_from n (suc k) ps v) e in
       let w = some_made (element_at (path n k) v) (bound p) (none-ne-some _) b.2 in
       rw (b.4, append_assoc b.0 b.1 env, sees p w.0 (b.1 ++ env) x w.2, sees_from n (suc k) ps v env x b.3)

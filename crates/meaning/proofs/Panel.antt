@@ -14,7 +14,7 @@ use Rattle.simplicity.specs.Outcomes.{value, stuck, missing}
 use Rattle.simplicity.specs.Terms.{unit}
 use Rattle.simplicity.specs.Meaning.{Witnesses, eval}
 use Rattle.book.specs.Faults.{fault_number}
-use Rattle.book.specs.Tree.{Pat, Expr, matchEnum, Arms, noArms, moreArms}
+use Rattle.book.specs.Tree.{Pat, Expr, match_enum, Arms, no_arms, more_arms}
 use Rattle.book.specs.declared.fault.Refusal.{Refusal}
 use Rattle.compile.specs.Whole.{lower_of}
 use Rattle.compile.specs.Whole as lowered
@@ -36,20 +36,20 @@ use Rattle.meaning.proofs.Demand.{way_of, what_you_see_is_what_runs}
 
 terms_count : (y : Bool) (cs : Arms) (sc : List Pat) → length (compile_arms y cs sc) ≡ arm_count cs
 unfolding compile arm_count
-terms_count y noArms sc = refl
-terms_count y (moreArms p e cs) sc = ap suc (terms_count y cs sc)
+terms_count y no_arms sc = refl
+terms_count y (more_arms p e cs) sc = ap suc (terms_count y cs sc)
 
 -- an eh with these arms, whose scrutinee's value is variant k with payload a
 module _ (ws : Witnesses) (r : ℕ) (t : Ty) (e : Expr) (cs : Arms) (k : ℕ) (inside : k < arm_count cs) (a : Value) where
   -- the source works out arm k on the payload
-  pub source_takes_arm : (env : List Held) → mean ws e env ≡ value (behind (path (arm_count cs) k) a) → mean ws (matchEnum r t e cs) env ≡ get_or (arms ws cs env) k (λ v. stuck) a
+  pub source_takes_arm : (env : List Held) → mean ws e env ≡ value (behind (path (arm_count cs) k) a) → mean ws (match_enum r t e cs) env ≡ get_or (arms ws cs env) k (λ v. stuck) a
   unfolding mean
   source_takes_arm env h =
       let z = arms_count ws cs env in
       rw h (ap (λ (n : ℕ). choose (length (arms ws cs env)) zero (arms ws cs env) (behind (path n k) a)) (sym z) ∙ arm_chosen (arms ws cs env) k (rw z inside) a)
 
   -- and what it is lowered to does what arm k is lowered to, on the payload beside the input
-  pub lowered_takes_arm : (y : Bool) (sc : List Pat) (input : Value) → eval ws (compile y e sc) input ≡ value (behind (path (arm_count cs) k) a) → eval ws (compile y (matchEnum r t e cs) sc) input ≡ eval ws (get_or (compile_arms y cs sc) k unit) (pair a input)
+  pub lowered_takes_arm : (y : Bool) (sc : List Pat) (input : Value) → eval ws (compile y e sc) input ≡ value (behind (path (arm_count cs) k) a) → eval ws (compile y (match_enum r t e cs) sc) input ≡ eval ws (get_or (compile_arms y cs sc) k unit) (pair a input)
   unfolding compile eval
   lowered_takes_arm y sc input h =
       let z = terms_count y cs sc in

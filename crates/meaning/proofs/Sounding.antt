@@ -19,7 +19,7 @@ use Rattle.book.specs.Format.{powers, within, power_in, in_range, TYPE, VALUE, E
 use Rattle.book.specs.Index.{mark, kind, field}
 use Rattle.book.specs.Read.{index_of}
 use Rattle.book.specs.Stands.{Stands}
-use Rattle.book.specs.Tree.{Tree, Stmts, noExprs, moreExprs, noEnd, end, as_expr, as_stmt, as_fun, group, exprs_at, arms_at, parts_at, last_at, stmts_at, maker, tree, type_of, value_of, declared_of, expr_of, fun_of}
+use Rattle.book.specs.Tree.{Tree, Stmts, no_exprs, more_exprs, no_end, end, as_expr, as_stmt, as_fun, group, exprs_at, arms_at, parts_at, last_at, stmts_at, maker, tree, type_of, value_of, declared_of, expr_of, fun_of}
 use Rattle.book.proofs.Established.{answer_valid}
 use Rattle.book.proofs.Roles.{layout, counted, field_before}
 use Rattle.book.proofs.Standing.{stands_mark, stands_tree, head_stands, head_below, head_ranged, each_stands, each_below, last_stands, last_below, tail_stands, tail_below, function_mark}
@@ -119,7 +119,7 @@ module _ (C : ℕ → Value → Type 0) (W : Ty → ℕ → ℕ → Type 0) (M :
     callee m is = in_head_lem (λ f. SoundFun C W M (fun_of b i f)) FUNCTION tt s fs m is 1
 
     -- a row of expressions, of words, of arms, of statements and their end
-    row : (m : ℕ) → mark b i r ≡ m → T (ltb 0 (layout m).eachs) → get_or (layout m).each 0 0 ≡ EXPRESSION → Sounds C W M (group (layout m).eachs noExprs (λ j. moreExprs (as_expr (a j))) (layout m).heads (counted m x))
+    row : (m : ℕ) → mark b i r ≡ m → T (ltb 0 (layout m).eachs) → get_or (layout m).each 0 0 ≡ EXPRESSION → Sounds C W M (group (layout m).eachs no_exprs (λ j. more_exprs (as_expr (a j))) (layout m).heads (counted m x))
     unfolding Sound
     row m is t u = group_all (Sounds C W M) _ _ _ (layout m).heads (counted m x) tt (λ k q z l es d. (member m is 0 t u k q (omega arith) l, d))
 
@@ -135,7 +135,7 @@ module _ (C : ℕ → Value → Type 0) (W : Ty → ℕ → ℕ → Type 0) (M :
     unfolding Sound
     run_end is k z = go (eqb (x k) 65535) refl
       where
-        go : (t : Bool) → eqb (x k) 65535 ≡ t → SoundRun C W M (pick t noEnd (end (as_expr (a k))))
+        go : (t : Bool) → eqb (x k) 65535 ≡ t → SoundRun C W M (pick t no_end (end (as_expr (a k))))
         go true e = tt
         go false e = ih (x k) (tail_below s EB is k (omega arith) tt refl (eqb-false (x k) 65535 e)) (tail_stands s EB is k (omega arith) tt refl (eqb-false (x k) 65535 e))
 

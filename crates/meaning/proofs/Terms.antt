@@ -14,7 +14,7 @@ use Rattle.array.specs.Partition.{partition}
 use Rattle.jet.specs.Jets.{add_of}
 use Rattle.simplicity.specs.Terms.{Term, iden, unit, injl, injr, take, drop, comp, case, pair, assertl, assertr, fail, scribe}
 use Rattle.simplicity.specs.Terms as terms
-use Rattle.book.specs.Tree.{Pat, Expr, constant, witness, variable, tuple, list, inLeft, inRight, variant, block, match, matchEnum, jet, unwrap_left, unwrap_right, debug, assert, panic, is_none, cast, call, list_fold, array_fold, for_while, hash, noExpr, Exprs, noExprs, moreExprs, Arms, noArms, moreArms, Parts, noParts, moreParts, Stmts, assign, does, end, noEnd, Fun, fun}
+use Rattle.book.specs.Tree.{Pat, Expr, constant, witness, variable, tuple, list, in_left, in_right, variant, block, match, match_enum, jet, unwrap_left, unwrap_right, debug, assert, panic, is_none, cast, call, list_fold, array_fold, for_while, hash, no_expr, Exprs, no_exprs, more_exprs, Arms, no_arms, more_arms, Parts, no_parts, more_parts, Stmts, assign, does, end, no_end, Fun, fun}
 use Rattle.pattern.specs.Find.{params_pattern}
 use Rattle.scope_bindings.specs.Scope.{lookup}
 use Rattle.compile.specs.Lower.{widths}
@@ -134,12 +134,12 @@ unfoldable mutual
   compile y (variable r t x) sc = fetch (lookup x sc)
   compile y (tuple r t es) sc = row_term (compiles y es sc)
   compile y (list r t n es) sc = list_term (top_of n - 1) (compiles y es sc)
-  compile y (inLeft r t e) sc = injl (compile y e sc)
-  compile y (inRight r t e) sc = injr (compile y e sc)
+  compile y (in_left r t e) sc = injl (compile y e sc)
+  compile y (in_right r t e) sc = injr (compile y e sc)
   compile y (variant r t k n es) sc = inject (path n k) (row_term (compiles y es sc))
   compile y (block r t ss) sc = compile_run y ss sc
   compile y (match r t e p l q g) sc = comp (pair (compile y e sc) iden) (case (compile y l (p ∷ sc)) (compile y g (q ∷ sc)))
-  compile y (matchEnum r t e cs) sc = comp (pair (compile y e sc) iden) (case_tree (compile_arms y cs sc))
+  compile y (match_enum r t e cs) sc = comp (pair (compile y e sc) iden) (case_tree (compile_arms y cs sc))
   compile y (jet r t s j es) sc = called y s (row_term (compiles y es sc)) (terms.jet j)
   compile y (unwrap_left r t s e) sc = called y s (compile y e sc) unwraps_left
   compile y (unwrap_right r t s e) sc = called y s (compile y e sc) unwraps_right
@@ -153,25 +153,25 @@ unfoldable mutual
   compile y (array_fold r t f n e a) sc = called y 0 (pair (compile y e sc) (compile y a sc)) (fold_array n (compile_fun y f))
   compile y (for_while r t f w a x) sc = called y 0 (pair (compile y a sc) (compile y x sc)) (loop (top_of w) (compile_fun y f))
   compile y (hash r t s ps) sc = called y s (row_term (compile_words y ps sc)) (raw_hash (widths ps))
-  compile y noExpr sc = fail
+  compile y no_expr sc = fail
 
   pub compiles : Bool → Exprs → List Pat → List Term
-  compiles y noExprs sc = []
-  compiles y (moreExprs e es) sc = compile y e sc ∷ compiles y es sc
+  compiles y no_exprs sc = []
+  compiles y (more_exprs e es) sc = compile y e sc ∷ compiles y es sc
 
   pub compile_words : Bool → Parts → List Pat → List Term
-  compile_words y noParts sc = []
-  compile_words y (moreParts w e ps) sc = compile y e sc ∷ compile_words y ps sc
+  compile_words y no_parts sc = []
+  compile_words y (more_parts w e ps) sc = compile y e sc ∷ compile_words y ps sc
 
   pub compile_arms : Bool → Arms → List Pat → List Term
-  compile_arms y noArms sc = []
-  compile_arms y (moreArms p e cs) sc = compile y e (p ∷ sc) ∷ compile_arms y cs sc
+  compile_arms y no_arms sc = []
+  compile_arms y (more_arms p e cs) sc = compile y e (p ∷ sc) ∷ compile_arms y cs sc
 
   pub compile_run : Bool → Stmts → List Pat → Term
   compile_run y (assign s p e rest) sc = comp (pair (compile y e sc) iden) (compile_run y rest (p ∷ sc))
   compile_run y (does s e rest) sc = comp (pair (compile y e sc) (compile_run y rest sc)) (drop iden)
   compile_run y (end e) sc = compile y e sc
-  compile_run y noEnd sc = unit
+  compile_run y no_end sc = unit
 
   pub compile_fun : Bool → Fun → Term
   compile_fun y (fun r t ps e) = compile y e (params_pattern ps ∷ [])

@@ -11,7 +11,7 @@ use Rattle.simplicity.specs.Values.{Value, unit, left, right, pair, bit, word, s
 use Rattle.simplicity.specs.Outcomes.{Outcome, value, failed, stuck, missing, and_then}
 use Rattle.simplicity.specs.Jets.{jet_on}
 use Rattle.simplicity.specs.Meaning.{Witnesses}
-use Rattle.book.specs.Tree.{Pat, name, ignore, patRow, Pats, noPats, morePats, Param, Expr, constant, witness, variable, tuple, list, inLeft, inRight, variant, block, match, matchEnum, jet, unwrap_left, unwrap_right, debug, assert, panic, is_none, cast, call, list_fold, array_fold, for_while, hash, noExpr, Exprs, noExprs, moreExprs, Arms, noArms, moreArms, Parts, noParts, moreParts, Stmts, assign, does, end, noEnd, Fun, fun}
+use Rattle.book.specs.Tree.{Pat, name, ignore, pat_row, Pats, no_pats, more_pats, Param, Expr, constant, witness, variable, tuple, list, in_left, in_right, variant, block, match, match_enum, jet, unwrap_left, unwrap_right, debug, assert, panic, is_none, cast, call, list_fold, array_fold, for_while, hash, no_expr, Exprs, no_exprs, more_exprs, Arms, no_arms, more_arms, Parts, no_parts, more_parts, Stmts, assign, does, end, no_end, Fun, fun}
 use Rattle.pattern.specs.Find.{size}
 
 -- a name and the value that it has. What is in scope is a row of these, the newest first
@@ -75,12 +75,12 @@ unfoldable mutual
   pub bound : Pat → Value → Option (List Held)
   bound (name x) v = some (held x v ∷ [])
   bound ignore v = some []
-  bound (patRow ps) v = bound_from (size ps) zero ps v
+  bound (pat_row ps) v = bound_from (size ps) zero ps v
 
   -- in a row of n patterns, those from element k on
   pub bound_from : ℕ → ℕ → Pats → Value → Option (List Held)
-  bound_from n k noPats v = some []
-  bound_from n k (morePats p ps) v = together (elim (element_at (path n k) v) [ some w ↦ bound p w | none ↦ none ]) (bound_from n (suc k) ps v)
+  bound_from n k no_pats v = some []
+  bound_from n k (more_pats p ps) v = together (elim (element_at (path n k) v) [ some w ↦ bound p w | none ↦ none ]) (bound_from n (suc k) ps v)
 
 -- what is made of bound names, which stand before those in scope
 abbrev pub binding : Option (List Held) → List Held → (List Held → Outcome) → Outcome
@@ -150,12 +150,12 @@ unfoldable mutual
   mean ws (variable r t x) env = lookup x env
   mean ws (tuple r t es) env = in_turn (means ws es env) (λ vs. value (row_value vs))
   mean ws (list r t n es) env = in_turn (means ws es env) (λ vs. value (list_value (top_of n - 1) vs))
-  mean ws (inLeft r t e) env = and_then (mean ws e env) (λ v. value (left v))
-  mean ws (inRight r t e) env = and_then (mean ws e env) (λ v. value (right v))
+  mean ws (in_left r t e) env = and_then (mean ws e env) (λ v. value (left v))
+  mean ws (in_right r t e) env = and_then (mean ws e env) (λ v. value (right v))
   mean ws (variant r t k n es) env = in_turn (means ws es env) (λ vs. value (behind (path n k) (row_value vs)))
   mean ws (block r t ss) env = run ws ss env
   mean ws (match r t e p l q g) env = and_then (mean ws e env) (λ v. by_side v (λ a. binding (bound p a) env (λ hs. mean ws l hs)) (λ a. binding (bound q a) env (λ hs. mean ws g hs)))
-  mean ws (matchEnum r t e cs) env = and_then (mean ws e env) (λ v. choose (length (arms ws cs env)) zero (arms ws cs env) v)
+  mean ws (match_enum r t e cs) env = and_then (mean ws e env) (λ v. choose (length (arms ws cs env)) zero (arms ws cs env) v)
   mean ws (jet r t s j es) env = in_turn (means ws es env) (λ vs. jet_on shape j (row_value vs))
   -- Unwrap fails on the other side, Assert on false, Panic always; IsNone is true on left; Debug and TypeCast give their argument
   mean ws (unwrap_left r t s e) env = and_then (mean ws e env) (λ v. by_side v (λ a. value a) (λ a. failed))
@@ -171,28 +171,28 @@ unfoldable mutual
   mean ws (for_while r t f w a x) env = and_then (mean ws a env) (λ b. and_then (mean ws x env) (λ y. counted (λ c k. apply ws f (c ∷ y ∷ word (top_of w) k ∷ [])) zero (2 ^ w) b))
   -- a run knows no jet of a hash: the words are worked out, and there it ends
   mean ws (hash r t s ps) env = in_turn (words ws ps env) (λ vs. missing)
-  mean ws noExpr env = stuck
+  mean ws no_expr env = stuck
 
   -- the expressions of a row, and the words of a hash
   pub means : Witnesses → Exprs → List Held → List Outcome
-  means ws noExprs env = []
-  means ws (moreExprs e es) env = mean ws e env ∷ means ws es env
+  means ws no_exprs env = []
+  means ws (more_exprs e es) env = mean ws e env ∷ means ws es env
 
   pub words : Witnesses → Parts → List Held → List Outcome
-  words ws noParts env = []
-  words ws (moreParts w e ps) env = mean ws e env ∷ words ws ps env
+  words ws no_parts env = []
+  words ws (more_parts w e ps) env = mean ws e env ∷ words ws ps env
 
   -- what each arm makes of its variant's payload
   pub arms : Witnesses → Arms → List Held → List (Value → Outcome)
-  arms ws noArms env = []
-  arms ws (moreArms p e cs) env = (λ a. binding (bound p a) env (λ hs. mean ws e hs)) ∷ arms ws cs env
+  arms ws no_arms env = []
+  arms ws (more_arms p e cs) env = (λ a. binding (bound p a) env (λ hs. mean ws e hs)) ∷ arms ws cs env
 
   -- a block's statements in order, and its end
   pub run : Witnesses → Stmts → List Held → Outcome
   run ws (assign s p e rest) env = and_then (mean ws e env) (λ v. binding (bound p v) env (λ hs. run ws rest hs))
   run ws (does s e rest) env = and_then (mean ws e env) (λ v. run ws rest env)
   run ws (end e) env = mean ws e env
-  run ws noEnd env = value unit
+  run ws no_end env = value unit
 
   -- document 01, Scope: a function's body knows its parameters and nothing else
   pub apply : Witnesses → Fun → List Value → Outcome

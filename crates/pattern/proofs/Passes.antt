@@ -8,7 +8,7 @@ use native.Mathlib.Omega.{arith}
 use borrow.Author.Tests.{eq-eqb, ne_eqb}
 use lib.ListN.{length}
 use Rattle.array.specs.Path.{Side, path}
-use Rattle.book.specs.Tree.{Pat, name, patRow, Pats, noPats, morePats, group}
+use Rattle.book.specs.Tree.{Pat, name, pat_row, Pats, no_pats, more_pats, group}
 use Rattle.book.proofs.Built.{group_next, group_none}
 use Rattle.named.specs.Combinators.{TAKE, DROP, kinds, wraps}
 use Rattle.named.specs.Draws.{Draws}
@@ -19,7 +19,7 @@ use Rattle.pattern.proofs.Selectors.{found_in}
 
 -- the patterns a of a group of s fields that stands m times from field h on
 abbrev pub row_at : ℕ → (ℕ → Pat) → ℕ → ℕ → Pats
-row_at s a = group s noPats (λ j. morePats (a j))
+row_at s a = group s no_pats (λ j. more_pats (a j))
 
 -- what the elements from k on have, in a row of n from field h on
 unfoldable pub left : ℕ → ℕ → (ℕ → Pat) → ℕ → ℕ → ℕ → Option (List Side)
@@ -32,7 +32,7 @@ size_row s a h (suc m) = ap suc (size_row s a (h + s) m)
 
 module _ (x s : ℕ) (a : ℕ → Pat) (h n : ℕ) where
   -- the whole row, one element and those after it, no more element
-  pub left_all : find x (patRow (row_at s a h n)) ≡ left x s a h n 0
+  pub left_all : find x (pat_row (row_at s a h n)) ≡ left x s a h n 0
   unfolding find find_from left
   left_all =
       let z : h + 0 * s ≡ h = omega arith in
@@ -43,11 +43,11 @@ module _ (x s : ℕ) (a : ℕ → Pat) (h n : ℕ) where
   unfolding find_from left
   left_next k j o e =
       let z : h + suc k * s ≡ j + s = omega arith in
-      rw (← e, z, group_next s noPats (λ i. morePats (a i)) j (n - k) (j + s) (n - suc k) (omega arith) refl)
+      rw (← e, z, group_next s no_pats (λ i. more_pats (a i)) j (n - k) (j + s) (n - suc k) (omega arith) refl)
 
   pub left_none : (k : ℕ) → n ≤ k → left x s a h n k ≡ none
   unfolding find_from left
-  left_none k o = rw (group_none s noPats (λ i. morePats (a i)) (h + k * s) (n - k) (omega arith))
+  left_none k o = rw (group_none s no_pats (λ i. more_pats (a i)) (h + k * s) (n - k) (omega arith))
 
 -- a search that comes to w has passed the elements before k of a row of n from field h on, and stored nothing
 pub record Passes (w : Option (List Side)) (x s : ℕ) (a : ℕ → Pat) (h n k : ℕ) (t t₁ : List ℕ) : Type 0 where

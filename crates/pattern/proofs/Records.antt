@@ -12,7 +12,7 @@ use Rattle.laws.specs.Table.{pick}
 use Rattle.book.specs.Format.{PATTERN, FUNCTION, PI, PN, PT, FN}
 use Rattle.book.specs.Index.{mark, field, Lies}
 use Rattle.book.specs.Stands.{Stands}
-use Rattle.book.specs.Tree.{Pat, name, ignore, patRow, morePats, Tree, as_pattern, as_fun, group, pattern_of, fun_of, tree, params_at}
+use Rattle.book.specs.Tree.{Pat, name, ignore, pat_row, more_pats, Tree, as_pattern, as_fun, group, pattern_of, fun_of, tree, params_at}
 use Rattle.book.proofs.Standing.{stands_mark, stands_tree, head_lies, head_most, each_lies, each_stands, each_below, function_mark}
 use Rattle.named.specs.Combinators.{iden}
 use Rattle.named.specs.Draws.{Draws}
@@ -26,7 +26,7 @@ use Rattle.pattern.proofs.Passes.{row_at, left, left_all, name_is, name_not}
 called_row : (x : ℕ → ℕ) (a : ℕ → Tree) (h m : ℕ) → called (params_at x a h m) ≡ row_at 2 (λ j. name (x j)) h m
 unfolding called group
 called_row x a h zero = refl
-called_row x a h (suc m) = ap (morePats (name (x h))) (called_row x a (h + 2) m)
+called_row x a h (suc m) = ap (more_pats (name (x h))) (called_row x a (h + 2) m)
 
 -- a record's pattern by its mark
 module _ {b i : List ℕ} {p : ℕ} (s : Stands b i p PATTERN) where
@@ -100,5 +100,5 @@ module _ {b i : List ℕ} {f : ℕ} (s : Stands b i f FUNCTION) where
   unfolding as_fun params_of
   finds_params x n z =
       ap (λ t. find x (params_pattern (params_of (as_fun t)))) (stands_tree s FN (function_mark s))
-      ∙ ap (λ ps. find x (patRow ps)) (called_row (field b i f) (λ k. tree b i (field b i f k)) 2 (field b i f 1))
+      ∙ ap (λ ps. find x (pat_row ps)) (called_row (field b i f) (λ k. tree b i (field b i f k)) 2 (field b i f 1))
       ∙ rw z (left_all x 2 (λ j. name (field b i f j)) 2 (field b i f 1))

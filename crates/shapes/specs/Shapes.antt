@@ -7,7 +7,7 @@ use Rattle.array.specs.Split.{top_of}
 use Rattle.array.specs.Path.{Side, on_left, on_right, path}
 use Rattle.array.specs.Row.{row}
 use Rattle.simplicity.specs.Types.{Ty, one, sum, product, two, word_of, fewer, same}
-use Rattle.book.specs.Tree.{Param, Expr, constant, witness, variable, tuple, list, inLeft, inRight, variant, block, match, matchEnum, jet, unwrap_left, unwrap_right, debug, assert, panic, is_none, cast, call, list_fold, array_fold, for_while, hash, noExpr, Exprs, noExprs, moreExprs, Arms, noArms, moreArms, Parts, noParts, moreParts, Stmts, assign, does, end, noEnd, Fun, fun}
+use Rattle.book.specs.Tree.{Param, Expr, constant, witness, variable, tuple, list, in_left, in_right, variant, block, match, match_enum, jet, unwrap_left, unwrap_right, debug, assert, panic, is_none, cast, call, list_fold, array_fold, for_while, hash, no_expr, Exprs, no_exprs, more_exprs, Arms, no_arms, more_arms, Parts, no_parts, more_parts, Stmts, assign, does, end, no_end, Fun, fun}
 
 -- document 01, The book: an expression's declared type
 unfoldable pub type_is : Expr → Ty
@@ -16,12 +16,12 @@ type_is (witness r t k x) = t
 type_is (variable r t x) = t
 type_is (tuple r t es) = t
 type_is (list r t n es) = t
-type_is (inLeft r t e) = t
-type_is (inRight r t e) = t
+type_is (in_left r t e) = t
+type_is (in_right r t e) = t
 type_is (variant r t k n es) = t
 type_is (block r t ss) = t
 type_is (match r t e p l q g) = t
-type_is (matchEnum r t e cs) = t
+type_is (match_enum r t e cs) = t
 type_is (jet r t s j es) = t
 type_is (unwrap_left r t s e) = t
 type_is (unwrap_right r t s e) = t
@@ -35,23 +35,23 @@ type_is (list_fold r t f n e a) = t
 type_is (array_fold r t f n e a) = t
 type_is (for_while r t f w a x) = t
 type_is (hash r t s ps) = t
-type_is noExpr = one
+type_is no_expr = one
 
 -- those of expressions in a row; of arms
 unfoldable pub types : Exprs → List Ty
-types noExprs = []
-types (moreExprs e es) = type_is e ∷ types es
+types no_exprs = []
+types (more_exprs e es) = type_is e ∷ types es
 
 unfoldable pub arm_types : Arms → List Ty
-arm_types noArms = []
-arm_types (moreArms p e cs) = type_is e ∷ arm_types cs
+arm_types no_arms = []
+arm_types (more_arms p e cs) = type_is e ∷ arm_types cs
 
 -- document 01, CHECK and the meanings: a block's end gives its type, a block with no end is of type unit
 unfoldable pub end_type : Stmts → Ty
 end_type (assign s p e rest) = end_type rest
 end_type (does s e rest) = end_type rest
 end_type (end e) = type_is e
-end_type noEnd = one
+end_type no_end = one
 
 -- a function's parameters' types, and what it gives
 unfoldable pub param_types : List Param → List Ty
@@ -167,8 +167,8 @@ loops w (acc ∷ ctx ∷ n ∷ y ∷ ys) u t a x = false
 
 -- document 01, CHECK and the meanings: a hash's expressions are words of the widths that stand before them
 unfoldable pub are_words : Parts → Bool
-are_words noParts = true
-are_words (moreParts w e ps) = both (same (type_is e) (word_type w)) (are_words ps)
+are_words no_parts = true
+are_words (more_parts w e ps) = both (same (type_is e) (word_type w)) (are_words ps)
 
 -- document 01, CHECK and the meanings: whether the declared type is the one that the parts' declared types give. A variable is judged in its scope, and a match's scrutinee and patterns where its arms begin
 unfoldable pub whole : Expr → Bool
@@ -177,12 +177,12 @@ whole (witness r t k x) = true
 whole (variable r t x) = true
 whole (tuple r t es) = same t (row_type (types es))
 whole (list r t n es) = is_list_of n t (types es) (element_of (top_of n) t)
-whole (inLeft r t e) = is_at (side_of sums on_left t) (type_is e)
-whole (inRight r t e) = is_at (side_of sums on_right t) (type_is e)
+whole (in_left r t e) = is_at (side_of sums on_left t) (type_is e)
+whole (in_right r t e) = is_at (side_of sums on_right t) (type_is e)
 whole (variant r t k n es) = both (has_places n t) (is_at (place_of sums n k t) (row_type (types es)))
 whole (block r t ss) = same (end_type ss) t
 whole (match r t e p l q g) = all_are t (type_is l ∷ type_is g ∷ [])
-whole (matchEnum r t e cs) = all_are t (arm_types cs)
+whole (match_enum r t e cs) = all_are t (arm_types cs)
 whole (jet r t s j es) = both (same_all (types es) (jet_takes j)) (same t (jet_gives j))
 whole (unwrap_left r t s e) = is_at (side_of sums on_left (type_is e)) t
 whole (unwrap_right r t s e) = is_at (side_of sums on_right (type_is e)) t
@@ -196,4 +196,4 @@ whole (list_fold r t f n e a) = folds (λ x. list_type x n) (takes f) (gives f) 
 whole (array_fold r t f n e a) = folds (λ x. array_type x n) (takes f) (gives f) t (type_is e) (type_is a)
 whole (for_while r t f w a x) = loops w (takes f) (gives f) t (type_is a) (type_is x)
 whole (hash r t s ps) = both (are_words ps) (same t (word_type 256))
-whole noExpr = false
+whole no_expr = false

@@ -17,7 +17,7 @@ use Rattle.book.specs.Index.{mark, field}
 use Rattle.book.specs.Stands.{Stands}
 use Rattle.book.specs.declared.fault.Fault.{Fault}
 use Rattle.book.specs.declared.fault.Refusal.{Refusal}
-use Rattle.book.specs.Tree.{Tree, Pat, Expr, Exprs, noExprs, moreExprs, Arms, moreArms, Parts, moreParts, Stmts, assign, does, end, noEnd, as_expr, as_stmt, as_fun, group, arms_at, parts_at, last_at, stmts_at, maker, tree, expr_of, fun_of}
+use Rattle.book.specs.Tree.{Tree, Pat, Expr, Exprs, no_exprs, more_exprs, Arms, more_arms, Parts, more_parts, Stmts, assign, does, end, no_end, as_expr, as_stmt, as_fun, group, arms_at, parts_at, last_at, stmts_at, maker, tree, expr_of, fun_of}
 use Rattle.book.proofs.Roles.{layout, counted}
 use Rattle.book.proofs.Standing.{stands_mark, stands_tree, each_stands, each_below, last_stands, last_below, tail_stands, tail_below, function_mark}
 use Rattle.shapes.specs.Shapes.{type_is}
@@ -88,17 +88,17 @@ abbrev RunDeepens : Stmts → Type 0
 RunDeepens ss = (sc : List Binding) → statements ss sc ≡ Passed → RunTyped sc ss
 
 -- one more of each
-more_all : (e : Expr) (es : Exprs) → Deepens e → AllDeepen es → AllDeepen (moreExprs e es)
+more_all : (e : Expr) (es : Exprs) → Deepens e → AllDeepen es → AllDeepen (more_exprs e es)
 unfolding Typed check
 more_all e es d ds sc h = let p = passed_both _ _ h in (d sc p.0, ds sc p.1)
 
-more_words : (w : ℕ) (e : Expr) (ps : Parts) → Deepens e → WordsDeepen ps → WordsDeepen (moreParts w e ps)
+more_words : (w : ℕ) (e : Expr) (ps : Parts) → Deepens e → WordsDeepen ps → WordsDeepen (more_parts w e ps)
 unfolding Typed check
 more_words w e ps d ds sc h = let p = passed_both _ _ h in (d sc p.0, ds sc p.1)
 
-more_arms : (r n : ℕ) (t : Ty) (c : Pat) (e : Expr) (cs : Arms) → Deepens e → ArmsDeepen r n t cs → ArmsDeepen r n t (moreArms c e cs)
+more_arms_lem : (r n : ℕ) (t : Ty) (c : Pat) (e : Expr) (cs : Arms) → Deepens e → ArmsDeepen r n t cs → ArmsDeepen r n t (more_arms c e cs)
 unfolding Typed check
-more_arms r n t c e cs d ds k sc h =
+more_arms_lem r n t c e cs d ds k sc h =
     let p = passed_both _ _ h in
     let q = passed_both _ _ p.0 in
     (passed_binds r _ _ q.0, d _ q.1, ds (suc k) sc p.1)
@@ -166,7 +166,7 @@ module _ {b i : List ℕ} {r : ℕ} (s : Stands b i r EXPRESSION) (ih : Deepen b
   callee m is = in_head_lem (λ g. FunTyped (fun_of b i g)) FUNCTION tt s fs m is 1
 
   -- a row of expressions, of words, of arms, of statements and their end
-  row : (m : ℕ) → mark b i r ≡ m → T (ltb 0 (layout m).eachs) → get_or (layout m).each 0 0 ≡ EXPRESSION → AllDeepen (group (layout m).eachs noExprs (λ j. moreExprs (as_expr (a j))) (layout m).heads (counted m x))
+  row : (m : ℕ) → mark b i r ≡ m → T (ltb 0 (layout m).eachs) → get_or (layout m).each 0 0 ≡ EXPRESSION → AllDeepen (group (layout m).eachs no_exprs (λ j. more_exprs (as_expr (a j))) (layout m).heads (counted m x))
   unfolding Typed
   row m is t o = group_all AllDeepen _ _ _ (layout m).heads (counted m x) (λ sc h. tt) (λ k q z l es. more_all _ es (member s ih m is 0 t o k q (omega arith) l))
 
@@ -176,13 +176,13 @@ module _ {b i : List ℕ} {r : ℕ} (s : Stands b i r EXPRESSION) (ih : Deepen b
 
   arms_row : mark b i r ≡ EH → (n : ℕ) (t : Ty) → ArmsDeepen r n t (arms_at a 3 (x 2))
   unfolding Typed
-  arms_row is n t = group_all (ArmsDeepen r n t) _ _ _ 3 (x 2) (λ j sc h. tt) (λ k q z l cs. more_arms r n t _ _ cs (member s ih EH is 1 tt refl (k + 1) q (omega arith) l))
+  arms_row is n t = group_all (ArmsDeepen r n t) _ _ _ 3 (x 2) (λ j sc h. tt) (λ k q z l cs. more_arms_lem r n t _ _ cs (member s ih EH is 1 tt refl (k + 1) q (omega arith) l))
 
   run_end : mark b i r ≡ EB → (k : ℕ) → k ≡ 2 + x 1 → RunDeepens (last_at x a k)
   unfolding Typed check
   run_end is k z = go (eqb (x k) 65535) refl
     where
-      go : (t : Bool) → eqb (x k) 65535 ≡ t → RunDeepens (pick t noEnd (end (as_expr (a k))))
+      go : (t : Bool) → eqb (x k) 65535 ≡ t → RunDeepens (pick t no_end (end (as_expr (a k))))
       go true e = λ sc h. tt
       go false e = ih (x k) (tail_below s EB is k (omega arith) tt refl (eqb-false (x k) 65535 e)) (tail_stands s EB is k (omega arith) tt refl (eqb-false (x k) 65535 e))
 

@@ -144,8 +144,8 @@ module _ {b i : List ℕ} {n r : ℕ} (v : Valid b i n) (w : Tiles b i n) (h : n
   first_stands : Stands b i 0 PATTERN
   first_stands = record { records = n; valid = v; inside = v.some; is = ap (kind_at b) (sym first_again) ∙ s.is }
 
-  no_parts : mark b i r ≡ PT → field b i r 0 ≡ 0
-  no_parts e =
+  no_parts_lem : mark b i r ≡ PT → field b i r 0 ≡ 0
+  no_parts_lem e =
       let m : mark b i 0 ≡ PT = ap (mark_at b) (sym first_again) ∙ e in
       let z : field b i r 0 ≡ field b i 0 0 = ap (λ (p : ℕ). field_at b p 0) first_again in
       by_lt 0 (field b i 0 0)
@@ -157,7 +157,7 @@ module _ {b i : List ℕ} {n r : ℕ} (v : Valid b i n) (w : Tiles b i n) (h : n
   once_at m e = every pattern_marks (λ k. m ≡ k → twice (names (pattern_of b i r)) ≡ false)
       ((λ q. rw (stands_tree s PI (sym e ∙ q)) refl)
       also (λ q. rw (stands_tree s PN (sym e ∙ q)) refl)
-      also (λ q. rw (stands_tree s PT (sym e ∙ q), no_parts (sym e ∙ q)) refl)
+      also (λ q. rw (stands_tree s PT (sym e ∙ q), no_parts_lem (sym e ∙ q)) refl)
       also tt)
       m (rw (← e) at (stands_mark s (λ j. among pattern_marks j) tt tt)) refl
 

@@ -7,7 +7,7 @@ use Rattle.simplicity.specs.Types.{Ty, one, same}
 use Rattle.book.specs.Faults.{refusal}
 use Rattle.book.specs.declared.fault.Fault.{Fault}
 use Rattle.book.specs.declared.fault.Fault.TheVariants as faults
-use Rattle.book.specs.Tree.{Pat, Expr, constant, witness, variable, tuple, list, inLeft, inRight, variant, block, match, matchEnum, jet, unwrap_left, unwrap_right, debug, assert, panic, is_none, cast, call, list_fold, array_fold, for_while, hash, noExpr, Exprs, noExprs, moreExprs, Arms, noArms, moreArms, Parts, noParts, moreParts, Stmts, assign, does, end, noEnd, Fun, fun}
+use Rattle.book.specs.Tree.{Pat, Expr, constant, witness, variable, tuple, list, in_left, in_right, variant, block, match, match_enum, jet, unwrap_left, unwrap_right, debug, assert, panic, is_none, cast, call, list_fold, array_fold, for_while, hash, no_expr, Exprs, no_exprs, more_exprs, Arms, no_arms, more_arms, Parts, no_parts, more_parts, Stmts, assign, does, end, no_end, Fun, fun}
 use Rattle.shapes.specs.Shapes.{type_is, sums, place_of, has_places, whole}
 use Rattle.binders.specs.Binders.{fits, names, param_names, twice, Binding, binding, scope_in, type_for}
 use Rattle.typing.specs.declared.cycle.Checked.{Checked}
@@ -45,8 +45,8 @@ variant_type n k t = there (place_of sums n k t)
 
 -- how many arms there are
 unfoldable pub arm_count : Arms → ℕ
-arm_count noArms = zero
-arm_count (moreArms p e cs) = suc (arm_count cs)
+arm_count no_arms = zero
+arm_count (more_arms p e cs) = suc (arm_count cs)
 
 -- document 01, Refusals by number: parts in lowering order before the whole, in a scope whose newest binding comes first
 unfoldable mutual
@@ -56,8 +56,8 @@ unfoldable mutual
   check (variable r t x) sc = known r t (type_for x sc)
   check (tuple r t es) sc = and_then (checks es sc) (agree (whole (tuple r t es)) r)
   check (list r t n es) sc = and_then (checks es sc) (agree (whole (list r t n es)) r)
-  check (inLeft r t e) sc = and_then (check e sc) (agree (whole (inLeft r t e)) r)
-  check (inRight r t e) sc = and_then (check e sc) (agree (whole (inRight r t e)) r)
+  check (in_left r t e) sc = and_then (check e sc) (agree (whole (in_left r t e)) r)
+  check (in_right r t e) sc = and_then (check e sc) (agree (whole (in_right r t e)) r)
   check (variant r t k n es) sc = and_then (checks es sc) (agree (whole (variant r t k n es)) r)
   check (block r t ss) sc = and_then (statements ss sc) (agree (whole (block r t ss)) r)
   -- TYPE before the first arm if the scrutinee's type lacks those arms; the arms come before the scrutinee, as they are lowered
@@ -66,10 +66,10 @@ unfoldable mutual
       (and_then (and_then (binds r p (variant_type 2 0 (type_is e))) (check l (binding p (variant_type 2 0 (type_is e)) ∷ sc)))
       (and_then (and_then (binds r q (variant_type 2 1 (type_is e))) (check g (binding q (variant_type 2 1 (type_is e)) ∷ sc)))
       (and_then (check e sc) (agree (whole (match r t e p l q g)) r))))
-  check (matchEnum r t e cs) sc =
+  check (match_enum r t e cs) sc =
       and_then (agree (has_places (arm_count cs) (type_is e)) r)
       (and_then (arms r (arm_count cs) zero (type_is e) cs sc)
-      (and_then (check e sc) (agree (whole (matchEnum r t e cs)) r)))
+      (and_then (check e sc) (agree (whole (match_enum r t e cs)) r)))
   check (jet r t s j es) sc = and_then (checks es sc) (agree (whole (jet r t s j es)) r)
   check (unwrap_left r t s e) sc = and_then (check e sc) (agree (whole (unwrap_left r t s e)) r)
   check (unwrap_right r t s e) sc = and_then (check e sc) (agree (whole (unwrap_right r t s e)) r)
@@ -85,20 +85,20 @@ unfoldable mutual
   check (for_while r t f w a x) sc = and_then (and_then (check a sc) (check x sc)) (agree (whole (for_while r t f w a x)) r)
   check (hash r t s ps) sc = and_then (words ps sc) (agree (whole (hash r t s ps)) r)
   -- what no book that READ accepts has
-  check noExpr sc = agree (whole noExpr) 0
+  check no_expr sc = agree (whole no_expr) 0
 
   pub checks : Exprs → List Binding → Checked
-  checks noExprs sc = Passed
-  checks (moreExprs e es) sc = and_then (check e sc) (checks es sc)
+  checks no_exprs sc = Passed
+  checks (more_exprs e es) sc = and_then (check e sc) (checks es sc)
 
   pub words : Parts → List Binding → Checked
-  words noParts sc = Passed
-  words (moreParts w e ps) sc = and_then (check e sc) (words ps sc)
+  words no_parts sc = Passed
+  words (more_parts w e ps) sc = and_then (check e sc) (words ps sc)
 
   -- the arms from k of n on, of a match on the type t: each behind its pattern
   pub arms : ℕ → ℕ → ℕ → Ty → Arms → List Binding → Checked
-  arms r n k t noArms sc = Passed
-  arms r n k t (moreArms p e cs) sc =
+  arms r n k t no_arms sc = Passed
+  arms r n k t (more_arms p e cs) sc =
       and_then (and_then (binds r p (variant_type n k t)) (check e (binding p (variant_type n k t) ∷ sc))) (arms r n (suc k) t cs sc)
 
   -- document 01, CHECK and the meanings: a statement e is of type unit (TYPE at the se)
@@ -106,7 +106,7 @@ unfoldable mutual
   statements (assign s p e rest) sc = and_then (and_then (check e sc) (binds s p (type_is e))) (statements rest (binding p (type_is e) ∷ sc))
   statements (does s e rest) sc = and_then (and_then (check e sc) (agree (same (type_is e) one) s)) (statements rest sc)
   statements (end e) sc = check e sc
-  statements noEnd sc = Passed
+  statements no_end sc = Passed
 
 -- document 01, Refusals by number: a function's parameter names before its body, which is of the type that it gives
 unfoldable pub check_fun : Fun → Checked

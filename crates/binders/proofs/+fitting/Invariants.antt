@@ -1,0 +1,28 @@
+-- `fits` and `fits_row` meet their contracts: by the pattern's mark, and what is marked fits; each element before k fits at its place.
+-- Assumes nothing.
+use Prim.Native.Nat.{ℕ, ◌+◌, ◌*◌, ◌-◌, ◌<◌}
+use mathlib.Core.Path.{refl, sym, ◌∙◌}
+use native.Mathlib.Omega.{arith}
+use borrow.Author.Tests.{not-true, not-false}
+use Rattle.book.specs.Index.{field}
+use Rattle.book.specs.Tree.{type_of, pattern_of}
+use Rattle.book.proofs.Standing.{stands_begins, stands_few}
+use Rattle.pattern.proofs.Records.{row_count, row_lies, row_part}
+use Rattle.binders.specs.Binders.{fits}
+use Rattle.shapes.proofs.Same.{gives_stands}
+use Rattle.binders.proofs.Fitting.{Fitting, fitted_other, fitted_known, fitted_empty, fitted_marked, fitting_none, fitting_all, fitting_nowhere, fitting_not, fitting_next}
+use borrow.Author.Rules.{rules}
+use Rattle.binders.proofs.+fitting.Given as goal
+
+abbrev pub decreases-fits : goal.decreases-fits
+decreases-fits l = 2 * l.p + 1
+
+abbrev pub decreases-fits_row : goal.decreases-fits_row
+decreases-fits_row l = 2 * l.p
+
+abbrev pub invariant-fits_row-loop-k : goal.invariant-fits_row-loop-k
+invariant-fits_row-loop-k l =
+    Fitting l.book l.index (fits (pattern_of l.book l.index l.p) (type_of l.book l.index l.t)) l.n (λ j. pattern_of l.book l.index (field l.book l.index l.p j)) (type_of l.book l.index l.t) l.k l.initial.memo l.memo
+
+abbrev pub decreases-fits_row-loop-k : goal.decreases-fits_row-loop-k
+decreases-fits_row-loop-k l = l.n - l.k

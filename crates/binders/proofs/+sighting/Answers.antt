@@ -1,0 +1,85 @@
+-- `type_in` and `type_in_row` meet their contracts: by the pattern's mark; each element before k has not the name, and fits the type at its place.
+-- Assumes nothing.
+use Prim.Native.Nat.{ℕ, ◌+◌, ◌*◌, ◌-◌, ◌<◌}
+use mathlib.Core.Path.{refl, sym, ◌∙◌}
+use native.Mathlib.Omega.{arith}
+use lib.ListN.{length-set}
+use borrow.Author.Rules.{rules}
+use borrow.Author.Tests.{not-true}
+use Rattle.book.specs.Index.{field}
+use Rattle.book.specs.Tree.{pattern_of}
+use Rattle.book.proofs.Standing.{stands_begins}
+use Rattle.pattern.specs.Seeks.{Memo}
+use Rattle.pattern.proofs.Memos.{memo_fits}
+use Rattle.pattern.proofs.Records.{name_lies, row_count, row_lies, row_most, row_part}
+use Rattle.binders.proofs.Sights.{Skips, binds_element, skips_none, skips_element, sights_known, sights_row, sights_name, sights_other, sights_ignored, element_none, element_found}
+use Rattle.binders.proofs.+sighting.Goals as goal
+
+pub type_in-bounds-missing-p : goal.type_in-bounds-missing-p
+type_in-bounds-missing-p t c = search memo_fits
+
+pub type_in-returns-then-missing-p-eq1 : goal.type_in-returns-then-missing-p-eq1
+type_in-returns-then-missing-p-eq1 t c = search sights_known
+
+pub type_in-mark_at-mark-requires : goal.type_in-mark_at-mark-requires
+type_in-mark_at-mark-requires t c = stands_begins c.requires.0.pattern
+
+pub type_in-type_in_row-requires : goal.type_in-type_in_row-requires
+type_in-type_in_row-requires t c = (search rules, (search rules, (sym c.mark_at-mark.ensures ∙ c.if-mark-eq-PT.true, search rules)))
+
+pub type_in-field_at-requires : goal.type_in-field_at-requires
+type_in-field_at-requires t c = name_lies c.requires.0.pattern _ c.mark_at-mark.ensures c.if-mark-eq-PI.true
+
+pub type_in-returns-then-field_at-name : goal.type_in-returns-then-field_at-name
+type_in-returns-then-field_at-name t c = search sights_name
+
+pub type_in-returns-else-field_at-name : goal.type_in-returns-else-field_at-name
+type_in-returns-else-field_at-name t c = search sights_other
+
+pub type_in-returns-else-mark-eq-PI : goal.type_in-returns-else-mark-eq-PI
+type_in-returns-else-mark-eq-PI t c = search sights_ignored
+
+pub type_in_row-field_at-n-requires : goal.type_in_row-field_at-n-requires
+type_in_row-field_at-n-requires t c = search row_count
+
+pub type_in_row-loop-k-init : goal.type_in_row-loop-k-init
+type_in_row-loop-k-init t c = (c.requires.1.1, skips_none c.requires.0 _ _ c.requires.1.0 c.field_at-n.ensures)
+
+pub type_in_row-field_at-part-requires : goal.type_in_row-field_at-part-requires
+type_in_row-field_at-part-requires t c = search row_lies
+
+pub type_in_row-may_have-requires : goal.type_in_row-may_have-requires
+type_in_row-may_have-requires t c =
+    record { stands = (row_part c.requires.0.pattern _ _ _ c.requires.1.0 c.field_at-n.ensures c.loop-k-test.true refl _ c.field_at-part.ensures).0; memo = c.loop-k.invariant.0 }
+
+pub type_in_row-loop-k-preserved-then-not-may_have : goal.type_in_row-loop-k-preserved-then-not-may_have
+type_in_row-loop-k-preserved-then-not-may_have t c =
+    (c.loop-k.invariant.0, skips_element c.requires.0 c.loop-k.invariant.1 _ c.loop-k-test.true refl c.field_at-part.ensures _ refl (c.may_have.ensures c.if-not-may_have.true))
+
+pub type_in_row-place-s-requires : goal.type_in_row-place-s-requires
+type_in_row-place-s-requires t c =
+    record { stands = c.requires.0.type; sort = tt; k_in_range = c.loop-k-test.true; n_in_range = row_most c.requires.0.pattern _ c.requires.1.0 c.field_at-n.ensures }
+
+pub type_in_row-type_in-found-requires : goal.type_in_row-type_in-found-requires
+type_in_row-type_in-found-requires t c =
+    let e = binds_element c.requires.0 _ _ _ _ _ c.requires.1.0 c.field_at-n.ensures c.loop-k-test.true refl c.field_at-part.ensures c.place-s.ensures in (omega (arith, e.below), (e.binds, c.loop-k.invariant.0))
+
+pub type_in_row-shape_of-missing-then-found : goal.type_in_row-shape_of-missing-then-found
+type_in_row-shape_of-missing-then-found t c = c.type_in-found.ensures.memo.size ∙ sym c.requires.1.1.size
+
+pub type_in_row-returns-then-found : goal.type_in_row-returns-then-found
+type_in_row-returns-then-found t c =
+    element_found c.loop-k.invariant.1 (binds_element c.requires.0 _ _ _ _ _ c.requires.1.0 c.field_at-n.ensures c.loop-k-test.true refl c.field_at-part.ensures c.place-s.ensures) c.type_in-found.ensures _ c.loop-k-test.true refl c.field_at-part.ensures c.if-found.true
+
+pub type_in_row-loop-k-preserved : goal.type_in_row-loop-k-preserved
+type_in_row-loop-k-preserved t c =
+    element_none c.loop-k.invariant.1 (binds_element c.requires.0 _ _ _ _ _ c.requires.1.0 c.field_at-n.ensures c.loop-k-test.true refl c.field_at-part.ensures c.place-s.ensures) c.type_in-found.ensures _ c.loop-k-test.true refl c.field_at-part.ensures _ refl c.if-found.false
+
+pub type_in_row-bounds-missing-p : goal.type_in_row-bounds-missing-p
+type_in_row-bounds-missing-p t c = search memo_fits
+
+pub type_in_row-shape_of-missing : goal.type_in_row-shape_of-missing
+type_in_row-shape_of-missing t c = length-set c.loop-k.missing c.args.p 1 ∙ c.loop-k.invariant.0.size ∙ sym c.requires.1.1.size
+
+pub type_in_row-returns : goal.type_in_row-returns
+type_in_row-returns t c = search sights_row

@@ -1,0 +1,33 @@
+-- `bearer` meets its contract: of the elements before k none bears names, or one alone.
+-- Assumes nothing.
+use Prim.Native.Nat.{◌-◌}
+use mathlib.Core.Logic.{⊎_elim}
+use mathlib.Core.Path.{refl}
+use borrow.Author.Rules.{rules}
+use Rattle.pattern.proofs.Records.{row_count, row_lies, row_part}
+use Rattle.binders.proofs.Tallies.{nameless_fits}
+use Rattle.binders.proofs.Bearing.{Bearing, bearing_none, bearing_all, bearing_same, bearing_first, bears_self}
+use Rattle.binders.proofs.bearer.Goals as goal
+
+pub field_at-n-requires : goal.field_at-n-requires
+field_at-n-requires c = search row_count
+
+pub loop-k-init : goal.loop-k-init
+loop-k-init c = bearing_none c.requires.stands c.requires.mark_is c.field_at-n.ensures
+
+pub field_at-part-requires : goal.field_at-part-requires
+field_at-part-requires c = search row_lies
+
+pub bounds-nameless-part : goal.bounds-nameless-part
+bounds-nameless-part c =
+    nameless_fits c.requires.nameless (row_part c.requires.stands _ _ _ c.requires.mark_is c.field_at-n.ensures c.loop-k-test.true refl _ c.field_at-part.ensures).0
+
+pub returns-then-only : goal.returns-then-only
+returns-then-only c = bears_self c.requires.stands
+
+pub loop-k-preserved : goal.loop-k-preserved
+loop-k-preserved c =
+    ⊎_elim (λ w. bearing_first _ _ _ c.loop-k-test.true refl c.field_at-part.ensures refl c.loop-k.invariant w.1.left (row_part c.requires.stands _ _ _ c.requires.mark_is c.field_at-n.ensures c.loop-k-test.true refl _ c.field_at-part.ensures) w.2) (λ w. bearing_same _ _ _ c.loop-k-test.true refl c.field_at-part.ensures refl c.loop-k.invariant (c.requires.nameless.sound _ w.0.left) w.1) c.if-nameless-part-ne1.branch
+
+pub returns : goal.returns
+returns c = bearing_all c.loop-k.invariant c.loop-k-test.false

@@ -1,0 +1,32 @@
+-- `newest_type` meets its contract: the bindings from `at` on have not the name.
+-- Assumes nothing.
+use mathlib.Core.Path.{refl, sym, ◌∙◌}
+use native.Mathlib.Omega.{arith}
+use borrow.Author.Rules.{rules}
+use Rattle.pattern.specs.Seeks.{Memo}
+use Rattle.pattern.proofs.Memos.{memo_none}
+use Rattle.binders.proofs.Scopes.{Older, older_none, older_all, older_next, older_found}
+use Rattle.binders.proofs.newest_type.Goals as goal
+
+pub loop-at-init : goal.loop-at-init
+loop-at-init c = (memo_none _ _ _ _ (rw c.requires.missing_length at c.clear.ensures), older_none _ _ _ _ _ _)
+
+pub type_in-found-requires : goal.type_in-found-requires
+type_in-found-requires c = (c.requires.live.each _ (omega (arith, c.loop-at.invariant.1.low)), c.loop-at.invariant.0)
+
+pub shape_of-missing-then-found : goal.shape_of-missing-then-found
+shape_of-missing-then-found c = c.type_in-found.ensures.memo.size ∙ sym c.requires.missing_length
+
+pub returns-then-found : goal.returns-then-found
+returns-then-found c =
+    (older_found c.loop-at.invariant.1 _ c.loop-at-test.true refl c.type_in-found.ensures.seen c.if-found.true, c.type_in-found.ensures.memo.size)
+
+pub loop-at-preserved : goal.loop-at-preserved
+loop-at-preserved c =
+    (c.type_in-found.ensures.memo, older_next c.loop-at.invariant.1 _ c.loop-at-test.true refl c.type_in-found.ensures.seen c.if-found.false)
+
+pub shape_of-missing : goal.shape_of-missing
+shape_of-missing c = c.loop-at.invariant.0.size ∙ sym c.requires.missing_length
+
+pub returns : goal.returns
+returns c = (older_all c.loop-at.invariant.1 (omega arith), c.loop-at.invariant.0.size)

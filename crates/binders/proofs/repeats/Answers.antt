@@ -1,0 +1,35 @@
+-- `repeats` meets its contract: by the record that has the row's names; a row of its own is met on top of none with this stamp.
+-- Assumes nothing.
+use mathlib.Core.Path.{refl, sym}
+use borrow.Author.Rules.{rules}
+use Rattle.binders.proofs.Tallies.{met_next, met_fresh, nameless_fits, notes_twice, notes_new_all, notes_empty}
+use Rattle.binders.proofs.Doubling.{repeats_row, repeats_none, part_fits, repeats_part}
+use Rattle.binders.proofs.repeats.Goals as goal
+
+pub bounds-nameless-p : goal.bounds-nameless-p
+bounds-nameless-p c = nameless_fits c.requires.nameless c.requires.stands
+
+pub returns-then-s : goal.returns-then-s
+returns-then-s c = repeats_none c.requires.stands c.bearer-s.ensures c.requires.met c.requires.nameless c.if-s.true
+
+pub bounds-doubled-s : goal.bounds-doubled-s
+bounds-doubled-s c = part_fits c.requires.stands c.bearer-s.ensures c.requires.met c.requires.nameless c.requires.doubled c.if-s.false
+
+pub returns-then-s-p : goal.returns-then-s-p
+returns-then-s-p c =
+    repeats_part c.requires.stands c.bearer-s.ensures c.requires.met c.requires.nameless c.requires.doubled c.if-s.false c.if-s-p.true
+
+pub note_all-requires : goal.note_all-requires
+note_all-requires c = (c.requires.stands, (met_next c.requires.met refl, c.requires.nameless))
+
+pub returns-in-Twice : goal.returns-in-Twice
+returns-in-Twice c =
+    repeats_row c.requires.stands (sym (notes_twice c.note_all.ensures.notes (met_fresh c.requires.met refl) (search rules))) c.note_all.ensures.notes.row c.note_all.ensures.nameless
+
+pub returns-in-Named : goal.returns-in-Named
+returns-in-Named c =
+    repeats_row c.requires.stands (sym (notes_new_all c.note_all.ensures.notes (met_fresh c.requires.met refl) (search rules))) c.note_all.ensures.notes.row c.note_all.ensures.nameless
+
+pub returns-in-Unnamed : goal.returns-in-Unnamed
+returns-in-Unnamed c =
+    repeats_row c.requires.stands (sym (notes_empty c.note_all.ensures.notes (met_fresh c.requires.met refl) (search rules))) c.note_all.ensures.notes.row c.note_all.ensures.nameless

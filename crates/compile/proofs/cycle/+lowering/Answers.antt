@@ -1,0 +1,429 @@
+-- The lowering of expressions: each function of the cycle does what its definition says, and together they are `lower`.
+-- Assumes nothing.
+use Prim.Native.Nat.{◌+◌, ◌*◌, ◌-◌, ◌≤◌}
+use mathlib.Core.Path.{◌≡◌, refl, sym, ap, ◌∙◌}
+use native.Mathlib.Nat.{le_trans, le_of_lt}
+use native.Mathlib.Omega.{arith}
+use borrow.Author.Tests.{not-true, not-false}
+use lib.ListN.{length, length-set}
+use Rattle.laws.specs.Table.{free}
+use Rattle.book.specs.Format.{PATTERN, EXPRESSION, EC, EW, EV, EB, SA, SE, EM, EH, CK, FN}
+use Rattle.book.proofs.Standing.{stands_begins, head_lies, function_mark}
+use Rattle.named.proofs.Pens.{then, halt, closes}
+use Rattle.scope_bindings.specs.Scope.{scope_of, lent, ScopeStands, of_function}
+use Rattle.scope_bindings.proofs.Scopes.{scope_count, root_stands}
+use Rattle.parts.specs.declared.view.Span.{Span}
+use Rattle.parts.proofs.Marks.{lies, most, at_mark}
+use Rattle.parts.proofs.Spans.{stmt_lies, stmt_stands, stmt_below, does_mark, near_most}
+use Rattle.compile.specs.Cycle.{call_run}
+use Rattle.compile.proofs.Shapes.{other_marks, row_is, row_else, cast_is, constant_is, witness_is, variable_is, block_is}
+use Rattle.compile.proofs.Steps.{Suffices, suffices_start, suffices_next, suffices_halt, suffices_done}
+use Rattle.compile.proofs.Blocks.{Begun, begun_start, begun_next, begun_halt, begun_end, begun_end_halt}
+use Rattle.compile.proofs.Facts.{head_is, head_less, in_span, does_stands, does_below, value_stands, value_below, inner_stands, arm_done, arm_full, fn_lies, fn_stands, fn_less, fn_done, end_lies, end_is, end_less, begin_does, begin_assign, begin_halt, element_plain, element_arm, functional_lies, functional_stands, functional_below, body_plain, body_fold, body_halt, choose_then, choose_halt, complete_call, complete_wrap, lies_after, arm_names, arm_body, arm_less, marked_as, marked, end_unit, end_expr, row_then, row_halt, second_is, arms_is, enters_is}
+use borrow.Author.Rules.{rules}
+use Prim.Native.Nat.{ℕ, ◌<◌}
+use Rattle.compile.proofs.cycle.+lowering.Goals as goal
+
+pub arm-returns-then-count-ge256 : goal.arm-returns-then-count-ge256
+arm-returns-then-count-ge256 t c = arm_full _ _ _ _ _ _ _ c.if-count-ge256.true
+
+pub arm-copied-requires : goal.arm-copied-requires
+arm-copied-requires t c = c.requires.1.1.row
+
+pub arm-insert-inner-requires : goal.arm-insert-inner-requires
+arm-insert-inner-requires t c = rw c.copied.ensures c.if-count-ge256.false
+
+pub arm-expression-requires : goal.arm-expression-requires
+arm-expression-requires t c =
+    ((omega (arith, c.decreases)), (c.requires.1.0, inner_stands c.requires.1.1 c.if-count-ge256.false c.requires.0 (rw c.copied.ensures at c.insert-inner.ensures)))
+
+pub arm-returns : goal.arm-returns
+arm-returns t c =
+    arm_done c.requires.1.1 c.if-count-ge256.false c.requires.0 (rw c.copied.ensures at c.insert-inner.ensures) _ _ _ c.expression.ensures
+
+pub begin-mark_at-requires : goal.begin-mark_at-requires
+begin-mark_at-requires t c = stands_begins c.requires.0
+
+pub begin-field_at-e-requires : goal.begin-field_at-e-requires
+begin-field_at-e-requires t c = head_lies c.requires.0 SE (does_mark c.requires.0 (λ z. c.if-mark_at-ne-SA.true (c.mark_at.ensures ∙ z))) 0 tt
+
+pub begin-expression-requires : goal.begin-expression-requires
+begin-expression-requires t c =
+    ((omega (arith, c.decreases, does_below c.requires.0 (λ z. c.if-mark_at-ne-SA.true (c.mark_at.ensures ∙ z)) c.field_at-e.ensures)), (does_stands c.requires.0 (λ z. c.if-mark_at-ne-SA.true (c.mark_at.ensures ∙ z)) c.field_at-e.ensures, c.requires.1))
+
+pub begin-returns-then-mark_at-ne-SA : goal.begin-returns-then-mark_at-ne-SA
+begin-returns-then-mark_at-ne-SA t c = begin_does _ _ _ _ _ _ (λ z. c.if-mark_at-ne-SA.true (c.mark_at.ensures ∙ z)) c.field_at-e.ensures c.expression.ensures
+
+pub begin-field_at-e-requires-2 : goal.begin-field_at-e-requires-2
+begin-field_at-e-requires-2 t c = head_lies c.requires.0 SA (sym c.mark_at.ensures ∙ c.if-mark_at-ne-SA.false) 1 tt
+
+pub begin-expression-requires-2 : goal.begin-expression-requires-2
+begin-expression-requires-2 t c =
+    ((omega (arith, c.decreases, value_below c.requires.0 (sym c.mark_at.ensures ∙ c.if-mark_at-ne-SA.false) c.field_at-e-2.ensures)), (value_stands c.requires.0 (sym c.mark_at.ensures ∙ c.if-mark_at-ne-SA.false) c.field_at-e-2.ensures, c.requires.1))
+
+pub begin-returns-in-Node : goal.begin-returns-in-Node
+begin-returns-in-Node t c =
+    begin_assign _ _ _ _ _ _ _ (sym c.mark_at.ensures ∙ c.if-mark_at-ne-SA.false) c.field_at-e-2.ensures c.expression-2.ensures c.in-Node.is (scope_count _ _ _) c.bind_value.ensures
+
+pub begin-returns-in-Refused : goal.begin-returns-in-Refused
+begin-returns-in-Refused t c =
+    begin_halt _ _ _ _ _ _ (sym c.mark_at.ensures ∙ c.if-mark_at-ne-SA.false) c.field_at-e-2.ensures c.expression-2.ensures c.in-Refused.is
+
+pub block-field_at-count-requires : goal.block-field_at-count-requires
+block-field_at-count-requires t c = lies c.requires.0 1 tt
+
+pub block-copied-own-requires : goal.block-copied-own-requires
+block-copied-own-requires t c = c.requires.1.row
+
+pub block-loop-k-init : goal.block-loop-k-init
+block-loop-k-init t c = rw c.copied-own.ensures (search rules, omega arith, c.requires.1, begun_start _ _ _ _ _ _ _ _ _ _ refl)
+
+pub block-overflow_add-k : goal.block-overflow_add-k
+block-overflow_add-k t c = omega (arith, c.loop-k-test.true, most c.requires.0 1 tt refl, c.field_at-count.ensures)
+
+pub block-field_at-s-requires : goal.block-field_at-s-requires
+block-field_at-s-requires t c = stmt_lies c.requires.0 c.loop-k.k (omega (arith, c.loop-k-test.true, c.field_at-count.ensures))
+
+pub block-begin-requires : goal.block-begin-requires
+block-begin-requires t c =
+    ((omega (arith, c.decreases, stmt_below c.requires.0 c.loop-k.k (omega (arith, c.loop-k-test.true, c.field_at-count.ensures)), c.field_at-s.ensures)), (stmt_stands c.requires.0 c.loop-k.k (omega (arith, c.loop-k-test.true, c.field_at-count.ensures)) c.field_at-s.ensures, c.loop-k.invariant.2))
+
+pub block-bounds-begun-k : goal.block-bounds-begun-k
+block-bounds-begun-k t c = omega (arith, c.loop-k-test.true, most c.requires.0 1 tt refl, c.field_at-count.ensures, c.loop-k.invariant.0)
+
+pub block-enter-own-requires : goal.block-enter-own-requires
+block-enter-own-requires t c =
+    record { stands = stmt_stands c.requires.0 c.loop-k.k (omega (arith, c.loop-k-test.true, c.field_at-count.ensures)) c.field_at-s.ensures; scope_stands = c.loop-k.invariant.2 }
+
+pub block-returns-in-Refused : goal.block-returns-in-Refused
+block-returns-in-Refused t c =
+    rw (block_is _ _ _ _ _ c.requires.0, ← c.field_at-count.ensures) (begun_halt c.loop-k.invariant.3 c.field_at-s.ensures (stmt_stands c.requires.0 c.loop-k.k (omega (arith, c.loop-k-test.true, c.field_at-count.ensures)) c.field_at-s.ensures) c.loop-k-test.true c.begin.ensures c.in-Refused.is)
+
+pub block-overflow_add-k-in-loop-k : goal.block-overflow_add-k-in-loop-k
+block-overflow_add-k-in-loop-k t c = omega (arith, c.loop-k-test.true, most c.requires.0 1 tt refl, c.field_at-count.ensures)
+
+pub block-loop-k-smaller : goal.block-loop-k-smaller
+block-loop-k-smaller t c = omega (arith, c.loop-k-test.true)
+
+pub block-loop-k-preserved : goal.block-loop-k-preserved
+block-loop-k-preserved t c =
+    (simp length-set c.loop-k.invariant.0, omega (arith, c.loop-k-test.true), c.enter-own.ensures.stands, begun_next c.loop-k.invariant.3 _ c.field_at-s.ensures (stmt_stands c.requires.0 c.loop-k.k (omega (arith, c.loop-k-test.true, c.field_at-count.ensures)) c.field_at-s.ensures) c.loop-k-test.true (omega (arith, c.loop-k-test.true, most c.requires.0 1 tt refl, c.field_at-count.ensures, c.loop-k.invariant.0)) c.begin.ensures c.in-Node.is (enters_is _ c.enter-own.ensures c.begin.ensures c.in-Node.is))
+
+pub block-end-requires : goal.block-end-requires
+block-end-requires t c = ((omega (arith, c.decreases)), (c.requires.0, c.loop-k.invariant.2))
+
+pub block-close_all-requires : goal.block-close_all-requires
+block-close_all-requires t c =
+    record { marked = c.requires.0; count_is = c.field_at-count.ensures; count_fits = omega (arith, most c.requires.0 1 tt refl, c.field_at-count.ensures, c.loop-k.invariant.0) }
+
+pub block-returns-in-Node-end : goal.block-returns-in-Node-end
+block-returns-in-Node-end t c =
+    rw (block_is _ _ _ _ _ c.requires.0, ← c.field_at-count.ensures) (begun_end c.loop-k.invariant.3 c.loop-k-test.false c.loop-k.invariant.1 (rw (← c.field_at-count.ensures) at c.end.ensures) c.in-Node-end.is c.close_all.ensures)
+
+pub block-returns-in-Refused-end : goal.block-returns-in-Refused-end
+block-returns-in-Refused-end t c =
+    rw (block_is _ _ _ _ _ c.requires.0, ← c.field_at-count.ensures) (begun_end_halt c.loop-k.invariant.3 c.loop-k-test.false c.loop-k.invariant.1 (rw (← c.field_at-count.ensures) at c.end.ensures) c.in-Refused-end.is)
+
+pub body-plain_body-requires : goal.body-plain_body-requires
+body-plain_body-requires t c =
+    record { marked = c.requires.0; is_call_is = c.requires.1; is_functional_is = sym c.is_functional.ensures ∙ c.if-not-is_functional.true }
+
+pub body-returns-then-not-is_functional : goal.body-returns-then-not-is_functional
+body-returns-then-not-is_functional t c = body_plain _ _ _ _ _ (sym c.is_functional.ensures ∙ c.if-not-is_functional.true) c.plain_body.ensures
+
+pub body-field_at-f-requires : goal.body-field_at-f-requires
+body-field_at-f-requires t c = functional_lies c.requires.0 (sym c.is_functional.ensures ∙ c.if-not-is_functional.false)
+
+pub body-function-requires : goal.body-function-requires
+body-function-requires t c =
+    ((omega (arith, c.decreases, functional_below c.requires.0 (sym c.is_functional.ensures ∙ c.if-not-is_functional.false) c.field_at-f.ensures)), functional_stands c.requires.0 (sym c.is_functional.ensures ∙ c.if-not-is_functional.false) c.field_at-f.ensures)
+
+pub body-fold_body-requires : goal.body-fold_body-requires
+body-fold_body-requires t c = c.requires.0
+
+pub body-returns-in-Node : goal.body-returns-in-Node
+body-returns-in-Node t c =
+    body_fold _ _ _ _ _ (sym c.is_functional.ensures ∙ c.if-not-is_functional.false) c.field_at-f.ensures c.function.ensures c.in-Node.is c.fold_body.ensures
+
+pub body-returns-in-Refused : goal.body-returns-in-Refused
+body-returns-in-Refused t c =
+    body_halt _ _ _ _ _ (sym c.is_functional.ensures ∙ c.if-not-is_functional.false) c.field_at-f.ensures c.function.ensures c.in-Refused.is
+
+pub call-body-requires : goal.call-body-requires
+call-body-requires t c = ((omega (arith, c.decreases)), (c.requires.0, c.requires.1))
+
+pub call-finish-requires : goal.call-finish-requires
+call-finish-requires t c = c.requires.0
+
+pub call-returns-in-Node : goal.call-returns-in-Node
+unfolding call_run
+call-returns-in-Node t c = then _ c.body.ensures c.in-Node.is c.finish.ensures
+
+pub call-returns-in-Refused : goal.call-returns-in-Refused
+unfolding call_run
+call-returns-in-Refused t c = halt _ c.body.ensures c.in-Refused.is
+
+pub choose-field_at-e-requires : goal.choose-field_at-e-requires
+choose-field_at-e-requires t c = lies c.requires.0 1 tt
+
+pub choose-expression-requires : goal.choose-expression-requires
+choose-expression-requires t c =
+    ((omega (arith, c.decreases, head_less c.requires.0 1 EXPRESSION tt c.field_at-e.ensures)), (head_is c.requires.0 1 EXPRESSION tt c.field_at-e.ensures, c.requires.1))
+
+pub choose-returns-in-Node : goal.choose-returns-in-Node
+choose-returns-in-Node t c = choose_then _ _ _ _ _ _ c.field_at-e.ensures c.expression.ensures c.in-Node.is c.choose_arm.ensures
+
+pub choose-returns-in-Refused : goal.choose-returns-in-Refused
+choose-returns-in-Refused t c = choose_halt _ _ _ _ _ _ c.field_at-e.ensures c.expression.ensures c.in-Refused.is
+
+pub complete-choose-requires : goal.complete-choose-requires
+complete-choose-requires t c = ((omega (arith, c.decreases)), (at_mark c.requires.0 EH c.if-m-eq-EH.true, c.requires.1))
+
+pub complete-returns-then-m-eq-EH : goal.complete-returns-then-m-eq-EH
+complete-returns-then-m-eq-EH t c = rw c.if-m-eq-EH.true c.choose.ensures
+
+pub complete-call-requires : goal.complete-call-requires
+complete-call-requires t c = ((omega (arith, c.decreases)), (c.requires.0, sym c.is_call.ensures ∙ c.if-is_call.true))
+
+pub complete-returns-then-is_call : goal.complete-returns-then-is_call
+complete-returns-then-is_call t c = complete_call _ _ _ _ _ _ _ c.if-m-eq-EH.false (sym c.is_call.ensures ∙ c.if-is_call.true) c.call.ensures
+
+pub complete-wrap-requires : goal.complete-wrap-requires
+complete-wrap-requires t c = c.requires.0
+
+pub complete-returns : goal.complete-returns
+complete-returns t c = complete_wrap _ _ _ _ _ _ _ c.if-m-eq-EH.false (sym c.is_call.ensures ∙ c.if-is_call.false) c.wrap.ensures
+
+pub element-overflow_sub-j : goal.element-overflow_sub-j
+element-overflow_sub-j t c = c.requires.1.1.after c.if-m-eq-EH.true
+
+pub element-arm_at-a-requires : goal.element-arm_at-a-requires
+element-arm_at-a-requires t c = (c.requires.1.1.before c.if-m-eq-EH.true, lies_after (c.requires.1.1.after c.if-m-eq-EH.true) c.requires.1.1.lies)
+
+pub element-arm-requires : goal.element-arm-requires
+element-arm-requires t c =
+    ((omega (arith, c.decreases, arm_less (c.requires.1.1) c.if-m-eq-EH.true c.arm_at-a.ensures.1)), (arm_names c.requires.1.1 c.if-m-eq-EH.true c.arm_at-a.ensures.0, (arm_body c.requires.1.1 c.if-m-eq-EH.true c.arm_at-a.ensures.1, c.requires.1.0)))
+
+pub element-returns-then-m-eq-EH : goal.element-returns-then-m-eq-EH
+element-returns-then-m-eq-EH t c =
+    element_arm _ _ _ _ _ _ _ _ _ c.if-m-eq-EH.true (c.requires.1.1.after c.if-m-eq-EH.true) c.arm_at-a.ensures.0 c.arm_at-a.ensures.1 c.arm.ensures
+
+pub element-field_at-e-requires : goal.element-field_at-e-requires
+element-field_at-e-requires t c = c.requires.1.1.lies
+
+pub element-expression-requires : goal.element-expression-requires
+element-expression-requires t c =
+    ((omega (arith, c.decreases, c.requires.1.1.below, c.field_at-e.ensures)), (rw c.field_at-e.ensures c.requires.1.1.stands, c.requires.1.0))
+
+pub element-returns : goal.element-returns
+element-returns t c = element_plain _ _ _ _ _ _ _ _ c.if-m-eq-EH.false c.field_at-e.ensures c.expression.ensures
+
+pub elements-loop-k-init : goal.elements-loop-k-init
+elements-loop-k-init t c = (refl, omega arith, suffices_start _ _ _ _ _ _ _ _ _ _ _ _ _ refl)
+
+pub elements-overflow_mul-j : goal.elements-overflow_mul-j
+elements-overflow_mul-j t c = omega (arith, near_most _ _ c.requires.1.1.1.0.near (le_trans (le_of_lt c.loop-k-test.true) c.requires.1.1.1.0.few))
+
+pub elements-overflow_add-j : goal.elements-overflow_add-j
+elements-overflow_add-j t c =
+    omega (arith, c.requires.1.1.1.0.low, near_most _ _ c.requires.1.1.1.0.near (le_trans (le_of_lt c.loop-k-test.true) c.requires.1.1.1.0.few))
+
+pub elements-element-requires : goal.elements-element-requires
+elements-element-requires t c =
+    ((omega (arith, c.decreases)), (c.requires.0, (c.requires.1.0, in_span c.requires.0 c.requires.1.1.0 c.requires.1.1.1.0 _ c.loop-k-test.true)))
+
+pub elements-bounds-roots-k : goal.elements-bounds-roots-k
+elements-bounds-roots-k t c = omega (arith, c.loop-k-test.true, c.requires.1.1.1.0.few, c.requires.1.1.1.1, c.loop-k.invariant.0)
+
+pub elements-returns-in-Refused : goal.elements-returns-in-Refused
+elements-returns-in-Refused t c = (c.loop-k.invariant.0, suffices_halt c.loop-k.invariant.2 _ c.loop-k-test.true c.element.ensures c.in-Refused.is)
+
+pub elements-overflow_add-k : goal.elements-overflow_add-k
+elements-overflow_add-k t c = omega (arith, c.loop-k-test.true, c.requires.1.1.1.0.few)
+
+pub elements-loop-k-smaller : goal.elements-loop-k-smaller
+elements-loop-k-smaller t c = omega (arith, c.loop-k-test.true)
+
+pub elements-loop-k-preserved : goal.elements-loop-k-preserved
+elements-loop-k-preserved t c =
+    (simp length-set c.loop-k.invariant.0, omega (arith, c.loop-k-test.true), suffices_next c.loop-k.invariant.2 c.loop-k-test.true (omega (arith, c.loop-k-test.true, c.requires.1.1.1.0.few, c.requires.1.1.1.1, c.loop-k.invariant.0)) c.element.ensures c.in-Node.is)
+
+pub elements-returns : goal.elements-returns
+elements-returns t c = (c.loop-k.invariant.0, suffices_done c.loop-k.invariant.2 c.loop-k-test.false c.loop-k.invariant.1)
+
+pub end-field_at-n-requires : goal.end-field_at-n-requires
+end-field_at-n-requires t c = lies c.requires.0 1 tt
+
+pub end-overflow_add-n : goal.end-overflow_add-n
+end-overflow_add-n t c = omega (arith, most c.requires.0 1 tt refl, c.field_at-n.ensures)
+
+pub end-field_at-e-requires : goal.end-field_at-e-requires
+end-field_at-e-requires t c = end_lies c.requires.0 c.field_at-n.ensures
+
+pub end-returns-then-e : goal.end-returns-then-e
+end-returns-then-e t c =
+    rw (← c.field_at-n.ensures) (end_unit _ _ _ _ _ _ c.field_at-e.ensures c.if-e.true (closes c.pen_at.ensures c.put.ensures c.answer_of.ensures))
+
+pub end-expression-requires : goal.end-expression-requires
+end-expression-requires t c =
+    ((omega (arith, c.decreases, end_less c.requires.0 c.field_at-n.ensures c.field_at-e.ensures c.if-e.false)), (end_is c.requires.0 c.field_at-n.ensures c.field_at-e.ensures c.if-e.false, c.requires.1))
+
+pub end-returns : goal.end-returns
+end-returns t c = rw (← c.field_at-n.ensures) (end_expr _ _ _ _ _ _ c.field_at-e.ensures c.if-e.false c.expression.ensures)
+
+pub expression-mark_at-m-requires : goal.expression-mark_at-m-requires
+expression-mark_at-m-requires t c = stands_begins c.requires.0
+
+pub expression-constant-requires : goal.expression-constant-requires
+expression-constant-requires t c = (marked c.requires.0 c.mark_at-m.ensures EC c.in-11.is)
+
+pub expression-witness-requires : goal.expression-witness-requires
+expression-witness-requires t c = (marked c.requires.0 c.mark_at-m.ensures EW c.in-12.is)
+
+pub expression-variable-requires : goal.expression-variable-requires
+expression-variable-requires t c = record { marked = (marked c.requires.0 c.mark_at-m.ensures EV c.in-13.is); scope_stands = c.requires.1 }
+
+pub expression-block-requires : goal.expression-block-requires
+expression-block-requires t c = ((omega (arith, c.decreases)), ((marked c.requires.0 c.mark_at-m.ensures EB c.in-19.is), c.requires.1))
+
+pub expression-two_arms-requires : goal.expression-two_arms-requires
+expression-two_arms-requires t c = ((omega (arith, c.decreases)), ((marked c.requires.0 c.mark_at-m.ensures EM c.in-22.is), c.requires.1))
+
+pub expression-field_at-e-requires : goal.expression-field_at-e-requires
+expression-field_at-e-requires t c = lies (marked c.requires.0 c.mark_at-m.ensures CK c.in-31.is) 1 tt
+
+pub expression-expression-requires : goal.expression-expression-requires
+expression-expression-requires t c =
+    ((omega (arith, c.decreases, head_less (marked c.requires.0 c.mark_at-m.ensures CK c.in-31.is) 1 EXPRESSION tt c.field_at-e.ensures)), (head_is (marked c.requires.0 c.mark_at-m.ensures CK c.in-31.is) 1 EXPRESSION tt c.field_at-e.ensures, c.requires.1))
+
+pub expression-from_row-requires : goal.expression-from_row-requires
+expression-from_row-requires t c =
+    ((omega (arith, c.decreases)), (marked_as c.requires.0 c.mark_at-m.ensures, (c.requires.1, row_else (marked_as c.requires.0 c.mark_at-m.ensures) (free other_marks _ Unit c.in_default.in_default-own.rest).1)))
+
+pub expression-returns-in-11 : goal.expression-returns-in-11
+expression-returns-in-11 t c = rw (constant_is _ _ _ _ _ (marked c.requires.0 c.mark_at-m.ensures EC c.in-11.is)) c.constant.ensures
+
+pub expression-returns-in-12 : goal.expression-returns-in-12
+expression-returns-in-12 t c = rw (witness_is _ _ _ _ _ (marked c.requires.0 c.mark_at-m.ensures EW c.in-12.is)) c.witness.ensures
+
+pub expression-returns-in-13 : goal.expression-returns-in-13
+expression-returns-in-13 t c = rw (variable_is _ _ _ _ _ (marked c.requires.0 c.mark_at-m.ensures EV c.in-13.is)) c.variable.ensures
+
+pub expression-returns-in-19 : goal.expression-returns-in-19
+expression-returns-in-19 t c = c.block.ensures
+
+pub expression-returns-in-22 : goal.expression-returns-in-22
+expression-returns-in-22 t c = c.two_arms.ensures
+
+pub expression-returns-in-31 : goal.expression-returns-in-31
+expression-returns-in-31 t c =
+    rw (cast_is _ _ _ _ _ (marked c.requires.0 c.mark_at-m.ensures CK c.in-31.is), ← c.field_at-e.ensures) c.expression.ensures
+
+pub expression-returns-in_default : goal.expression-returns-in_default
+expression-returns-in_default t c = c.from_row.ensures
+
+pub from_row-row-requires : goal.from_row-row-requires
+from_row-row-requires t c = ((omega (arith, c.decreases)), (c.requires.0, (c.requires.1.0, c.requires.1.1)))
+
+pub from_row-complete-requires : goal.from_row-complete-requires
+from_row-complete-requires t c = ((omega (arith, c.decreases)), (c.requires.0, c.requires.1.0))
+
+pub from_row-returns-in-Node : goal.from_row-returns-in-Node
+from_row-returns-in-Node t c = rw (row_is _ _ _ _ _ _ c.requires.1.1 c.requires.0) (then _ c.row.ensures c.in-Node.is c.complete.ensures)
+
+pub from_row-returns-in-Refused : goal.from_row-returns-in-Refused
+from_row-returns-in-Refused t c = rw (row_is _ _ _ _ _ _ c.requires.1.1 c.requires.0) (halt _ c.row.ensures c.in-Refused.is)
+
+pub function-field_at-n-requires : goal.function-field_at-n-requires
+function-field_at-n-requires t c = head_lies c.requires FN (function_mark c.requires) 1 tt
+
+pub function-field_at-e-requires : goal.function-field_at-e-requires
+function-field_at-e-requires t c = fn_lies c.requires c.field_at-n.ensures
+
+pub function-expression-requires : goal.function-expression-requires
+function-expression-requires t c =
+    ((omega (arith, c.decreases, fn_less c.requires c.field_at-n.ensures c.field_at-e.ensures)), (fn_stands c.requires c.field_at-n.ensures c.field_at-e.ensures, root_stands (of_function c.requires) c.from_root-scope.ensures))
+
+pub function-returns : goal.function-returns
+function-returns t c = fn_done c.requires c.field_at-n.ensures c.field_at-e.ensures _ c.from_root-scope.ensures c.expression.ensures
+
+pub row-span_of-span-requires : goal.row-span_of-span-requires
+row-span_of-span-requires t c = c.requires.0
+
+pub row-elements-requires : goal.row-elements-requires
+row-elements-requires t c =
+    ((omega (arith, c.decreases)), (c.requires.0, (c.requires.1.0, (c.requires.1.1, (c.span_of-span.ensures, search rules)))))
+
+pub row-gather-requires : goal.row-gather-requires
+row-gather-requires t c =
+    record { marked = c.requires.0; count_is = ap (λ (p : Span). p.count) c.span_of-span.ensures.is; count_in_range = c.span_of-span.ensures.few; count_fits = search rules }
+
+pub row-returns-in-To : goal.row-returns-in-To
+row-returns-in-To t c = row_then _ _ _ _ _ _ c.span_of-span.ensures c.elements.ensures.1 c.in-To.is c.gather.ensures
+
+pub row-returns-in-Refused : goal.row-returns-in-Refused
+row-returns-in-Refused t c = row_halt _ _ _ _ _ _ c.span_of-span.ensures c.elements.ensures.1 c.in-Refused.is
+
+pub second_arm-arm_at-right-requires : goal.second_arm-arm_at-right-requires
+second_arm-arm_at-right-requires t c = (lies c.requires.0 4 tt, lies c.requires.0 5 tt)
+
+pub second_arm-field_at-e-requires : goal.second_arm-field_at-e-requires
+second_arm-field_at-e-requires t c = lies c.requires.0 1 tt
+
+pub second_arm-arm-requires : goal.second_arm-arm-requires
+second_arm-arm-requires t c =
+    ((omega (arith, c.decreases, head_less c.requires.0 5 EXPRESSION tt c.arm_at-right.ensures.1)), (head_is c.requires.0 4 PATTERN tt c.arm_at-right.ensures.0, (head_is c.requires.0 5 EXPRESSION tt c.arm_at-right.ensures.1, c.requires.1)))
+
+pub second_arm-expression-requires : goal.second_arm-expression-requires
+second_arm-expression-requires t c =
+    ((omega (arith, c.decreases, head_less c.requires.0 1 EXPRESSION tt c.field_at-e.ensures)), (head_is c.requires.0 1 EXPRESSION tt c.field_at-e.ensures, c.requires.1))
+
+pub second_arm-returns-in-Node-expression : goal.second_arm-returns-in-Node-expression
+second_arm-returns-in-Node-expression t c =
+    second_is _ _ _ _ _ _ c.arm_at-right.ensures.0 c.arm_at-right.ensures.1 c.field_at-e.ensures (then _ c.arm.ensures c.in-Node.is (then _ c.expression.ensures c.in-Node-expression.is c.match_arms.ensures))
+
+pub second_arm-returns-in-Refused-expression : goal.second_arm-returns-in-Refused-expression
+second_arm-returns-in-Refused-expression t c =
+    second_is _ _ _ _ _ _ c.arm_at-right.ensures.0 c.arm_at-right.ensures.1 c.field_at-e.ensures (then _ c.arm.ensures c.in-Node.is (halt _ c.expression.ensures c.in-Refused-expression.is))
+
+pub second_arm-returns-in-Refused : goal.second_arm-returns-in-Refused
+second_arm-returns-in-Refused t c =
+    second_is _ _ _ _ _ _ c.arm_at-right.ensures.0 c.arm_at-right.ensures.1 c.field_at-e.ensures (halt _ c.arm.ensures c.in-Refused.is)
+
+pub two_arms-arm_at-left-requires : goal.two_arms-arm_at-left-requires
+two_arms-arm_at-left-requires t c = (lies c.requires.0 2 tt, lies c.requires.0 3 tt)
+
+pub two_arms-arm-requires : goal.two_arms-arm-requires
+two_arms-arm-requires t c =
+    ((omega (arith, c.decreases, head_less c.requires.0 3 EXPRESSION tt c.arm_at-left.ensures.1)), (head_is c.requires.0 2 PATTERN tt c.arm_at-left.ensures.0, (head_is c.requires.0 3 EXPRESSION tt c.arm_at-left.ensures.1, c.requires.1)))
+
+pub two_arms-second_arm-requires : goal.two_arms-second_arm-requires
+two_arms-second_arm-requires t c = ((omega (arith, c.decreases)), (c.requires.0, c.requires.1))
+
+pub two_arms-returns-in-Node : goal.two_arms-returns-in-Node
+two_arms-returns-in-Node t c =
+    arms_is _ _ _ _ _ c.requires.0 c.arm_at-left.ensures.0 c.arm_at-left.ensures.1 (then _ c.arm.ensures c.in-Node.is c.second_arm.ensures)
+
+pub two_arms-returns-in-Refused : goal.two_arms-returns-in-Refused
+two_arms-returns-in-Refused t c = arms_is _ _ _ _ _ c.requires.0 c.arm_at-left.ensures.0 c.arm_at-left.ensures.1 (halt _ c.arm.ensures c.in-Refused.is)
+
+pub block-shape_of-nodes-in-Refused : goal.block-shape_of-nodes-in-Refused
+block-shape_of-nodes-in-Refused t c = (block-returns-in-Refused t c).kept
+
+pub block-shape_of-nodes-in-Node-end : goal.block-shape_of-nodes-in-Node-end
+block-shape_of-nodes-in-Node-end t c = (block-returns-in-Node-end t c).kept
+
+pub block-shape_of-nodes-in-Refused-end : goal.block-shape_of-nodes-in-Refused-end
+block-shape_of-nodes-in-Refused-end t c = (block-returns-in-Refused-end t c).kept
+
+pub elements-shape_of-roots-in-Refused : goal.elements-shape_of-roots-in-Refused
+elements-shape_of-roots-in-Refused t c = (elements-returns-in-Refused t c).0
+
+pub elements-shape_of-nodes-in-Refused : goal.elements-shape_of-nodes-in-Refused
+elements-shape_of-nodes-in-Refused t c = (elements-returns-in-Refused t c).1.kept
+
+pub elements-shape_of-roots : goal.elements-shape_of-roots
+elements-shape_of-roots t c = (elements-returns t c).0
+
+pub elements-shape_of-nodes : goal.elements-shape_of-nodes
+elements-shape_of-nodes t c = (elements-returns t c).1.kept

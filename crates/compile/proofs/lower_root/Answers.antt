@@ -1,0 +1,14 @@
+-- `lower_root` meets its contract: the root's nodes on a clear table, or a table that is cleared again.
+-- Assumes nothing.
+use Rattle.compile.proofs.Wholes.{root_fits, root_made, root_refused}
+use borrow.Author.Rules.{rules}
+use Rattle.compile.proofs.lower_root.Goals as goal
+
+pub expression-requires : goal.expression-requires
+expression-requires c = (c.requires.stands, root_fits c.from_root-scope.ensures)
+
+pub returns-in-Node : goal.returns-in-Node
+returns-in-Node c = root_made _ _ _ _ c.from_root-scope.ensures c.requires.nodes_is c.expression.ensures c.in-Node.is
+
+pub returns-in-Refused : goal.returns-in-Refused
+returns-in-Refused c = root_refused _ _ _ _ c.from_root-scope.ensures c.requires.nodes_is c.expression.ensures c.in-Refused.is c.clear.ensures
