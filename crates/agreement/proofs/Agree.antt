@@ -121,22 +121,22 @@ module _ (b : Text) where
 module _ (b : Text) (valid : Valid b.bytes b.index b.records) where
   -- a record that is one of the book's, and of the kind
   module _ (kd r : ℕ) (t : T (holds b kd r)) where
-    inside-it : r < b.records
-    inside-it = ltb→lt r b.records (both_left (ltb r b.records) (eqb (kind b.bytes b.index r) kd) t)
+    inside_it : r < b.records
+    inside_it = ltb→lt r b.records (both_left (ltb r b.records) (eqb (kind b.bytes b.index r) kd) t)
 
-    is-it : kind b.bytes b.index r ≡ kd
-    is-it = eqb→eq (kind b.bytes b.index r) kd (both_right (ltb r b.records) (eqb (kind b.bytes b.index r) kd) t)
+    is_it : kind b.bytes b.index r ≡ kd
+    is_it = eqb→eq (kind b.bytes b.index r) kd (both_right (ltb r b.records) (eqb (kind b.bytes b.index r) kd) t)
 
   -- a value's cell reads back as the value
   constant_holds : (r : ℕ) → T (holds b VALUE r) → (w : World) (vs : List Value) → Heap b b.records w vs → Holds w.table w.used (cell_of b r) (value_of b.bytes b.index r)
   constant_holds r t w vs p =
-      let l = inside-it VALUE r t in
-      let e = is-it VALUE r t in
+      let l = inside_it VALUE r t in
+      let e = is_it VALUE r t in
       rw (cell_of_lem b r l e) (p.constants r l e)
 
   module _ (r : ℕ) (v : T (holds b VALUE r)) where
     stands : Stands b.bytes b.index r VALUE
-    stands = record { records = b.records; valid = valid; inside = inside-it VALUE r v; is = is-it VALUE r v }
+    stands = record { records = b.records; valid = valid; inside = inside_it VALUE r v; is = is_it VALUE r v }
 
     -- a value names its declared type, which is an earlier record
     record Declares : Type 0 where
@@ -156,11 +156,11 @@ module _ (b : Text) (valid : Valid b.bytes b.index b.records) where
         (mark b.bytes b.index r) (stands_mark stands (among (VU ∷ VL ∷ VR ∷ VP ∷ [])) tt tt) refl
 
     -- so to compare a type with it is to compare their numbers
-    same-declared : (t : ℕ) → T (holds b TYPE t) → same (declared_of b.bytes b.index r) (type_of b.bytes b.index t) ≡ eqb (field b.bytes b.index r 0) t
-    same-declared t h =
+    same_declared : (t : ℕ) → T (holds b TYPE t) → same (declared_of b.bytes b.index r) (type_of b.bytes b.index t) ≡ eqb (field b.bytes b.index r 0) t
+    same_declared t h =
         let d = declares in
         let f = field b.bytes b.index r 0 in
-        let equal = types_equal valid f t (omega (arith, d.below, inside-it VALUE r v)) (inside-it TYPE t h) d.is (is-it TYPE t h) in
+        let equal = types_equal valid f t (omega (arith, d.below, inside_it VALUE r v)) (inside_it TYPE t h) d.is (is_it TYPE t h) in
         rw d.type (alike (same (type_of b.bytes b.index f) (type_of b.bytes b.index t)) (eqb f t)
         (λ e. eq-eqb f t (equal.0 (same_is _ _ e))) (λ e. is_same _ _ (equal.1 (eqb-true f t e))))
 
@@ -171,7 +171,7 @@ module _ (b : Text) (valid : Valid b.bytes b.index b.records) where
   witness_tests ws x t h = ap (both (ltb (2 * x + 1) (length ws))) (go (holds b VALUE (entry_of ws x)) refl)
     where
       go : (c : Bool) → holds b VALUE (entry_of ws x) ≡ c → both c (same (declared_of b.bytes b.index (entry_of ws x)) (type_of b.bytes b.index t)) ≡ both c (eqb (field b.bytes b.index (entry_of ws x) 0) t)
-      go true e = same-declared (entry_of ws x) (subst T (sym e) tt) t h
+      go true e = same_declared (entry_of ws x) (subst T (sym e) tt) t h
       go false e = refl
 
 module _ (g : Given) (valid : Valid g.book.bytes g.book.index g.book.records) where

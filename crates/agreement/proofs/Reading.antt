@@ -73,9 +73,9 @@ module _ (t : List ℕ) (u k a b : ℕ) where
 
   -- the cell that is stored, where it fits
   module _ (fit : u < room (length t)) where
-    kind-here : kind_at (put t u k a b) u ≡ k
+    kind_here : kind_at (put t u k a b) u ≡ k
     unfolding put kind_at room
-    kind-here =
+    kind_here =
         get_or-set_other p4 (5 * u + 4) (5 * u) (b / 256) 0 (omega arith)
         ∙ get_or-set_other p3 (5 * u + 3) (5 * u) (b % 256) 0 (omega arith)
         ∙ get_or-set_other p2 (5 * u + 2) (5 * u) (a / 256) 0 (omega arith)
@@ -111,29 +111,29 @@ module _ (t : List ℕ) (u k a b : ℕ) where
     unfolding left_at
     left_here = rw (byte1, byte2) (omega arith)
 
-    right-here : right_at (put t u k a b) u ≡ b
+    right_here : right_at (put t u k a b) u ≡ b
     unfolding right_at
-    right-here = rw (byte3, byte4) (omega arith)
+    right_here = rw (byte3, byte4) (omega arith)
 
 -- a stored cell of each kind reads back
 module _ (t : List ℕ) (u : ℕ) (fit : u < room (length t)) where
   pub back_unit : Back (put t u unit_cell 0 0) u unit
   unfolding shape_at
-  back_unit = b_unit {x = u} (rw (kind-here t u unit_cell 0 0 fit))
+  back_unit = b_unit {x = u} (rw (kind_here t u unit_cell 0 0 fit))
 
   module _ {a : ℕ} {v : Value} (l : a < u) (r : Back t a v) where
     pub back_left : Back (put t u left_cell a 0) u (left v)
     unfolding shape_at
-    back_left = b_left {x = u} {a = a} (rw (kind-here t u left_cell a 0 fit, left_here t u left_cell a 0 fit)) l (back_put t u left_cell a 0 l r)
+    back_left = b_left {x = u} {a = a} (rw (kind_here t u left_cell a 0 fit, left_here t u left_cell a 0 fit)) l (back_put t u left_cell a 0 l r)
 
     pub back_right : Back (put t u right_cell a 0) u (right v)
     unfolding shape_at
-    back_right = b_right {x = u} {a = a} (rw (kind-here t u right_cell a 0 fit, left_here t u right_cell a 0 fit)) l (back_put t u right_cell a 0 l r)
+    back_right = b_right {x = u} {a = a} (rw (kind_here t u right_cell a 0 fit, left_here t u right_cell a 0 fit)) l (back_put t u right_cell a 0 l r)
 
     pub back_pair : {b : ℕ} {w : Value} → b < u → Back t b w → Back (put t u pair_cell a b) u (pair v w)
     unfolding shape_at
     back_pair {b} m s =
-        b_pair {x = u} {a = a} {b = b} (rw (kind-here t u pair_cell a b fit, left_here t u pair_cell a b fit, right-here t u pair_cell a b fit)) l m
+        b_pair {x = u} {a = a} {b = b} (rw (kind_here t u pair_cell a b fit, left_here t u pair_cell a b fit, right_here t u pair_cell a b fit)) l m
         (back_put t u pair_cell a b l r) (back_put t u pair_cell a b m s)
 
 -- what is made of a cell's shape is made of the value's

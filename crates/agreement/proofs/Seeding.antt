@@ -60,9 +60,9 @@ module _ (b : Text) (v : Valid b.bytes b.index b.records) (n : ℕ) (l : n < b.r
     stands = record { records = b.records; valid = v; inside = l; is = is }
 
     -- its cell is stored, if it fits
-    seeded-some : (k x y : ℕ) → (w.used < room (length w.table) → Back (put w.table w.used k x y) w.used (value_of b.bytes b.index n)) → Seeded b (suc n) (store 0 k x y w)
+    seeded_some : (k x y : ℕ) → (w.used < room (length w.table) → Back (put w.table w.used k x y) w.used (value_of b.bytes b.index n)) → Seeded b (suc n) (store 0 k x y w)
     unfolding values_below
-    seeded-some k x y f =
+    seeded_some k x y f =
         by_store k x y w 0 (Seeded b (suc n)) (λ fit.
         let q : Heap b n (after k x y w) [] = heap_keeps (after_keeps k x y w) p in (
           record {
@@ -77,26 +77,26 @@ module _ (b : Text) (v : Valid b.bytes b.index b.records) (n : ℕ) (l : n < b.r
         refl
 
     -- a field that names a value: its cell is there
-    part-holds : (k : ℕ) → field b.bytes b.index n k < n → Stands b.bytes b.index (field b.bytes b.index n k) VALUE
+    part_holds : (k : ℕ) → field b.bytes b.index n k < n → Stands b.bytes b.index (field b.bytes b.index n k) VALUE
         → Holds w.table w.used (part_of b n k) (value_of b.bytes b.index (field b.bytes b.index n k))
-    part-holds k o s = rw (cell_of_lem b (field b.bytes b.index n k) (omega arith) s.is) (p.constants (field b.bytes b.index n k) o s.is)
+    part_holds k o s = rw (cell_of_lem b (field b.bytes b.index n k) (omega arith) s.is) (p.constants (field b.bytes b.index n k) o s.is)
 
     -- by its mark
-    seeded-one : Seeded b (suc n) (seed b n w)
+    seeded_one : Seeded b (suc n) (seed b n w)
     unfolding seed as_value
-    seeded-one =
+    seeded_one =
         every (VU ∷ VL ∷ VR ∷ VP ∷ []) (λ m. mark b.bytes b.index n ≡ m → Seeded b (suc n) (seed b n w))
-        ((λ e. rw e (seeded-some unit_cell 0 0 (λ fit. rw (ap as_value (stands_tree stands VU e)) (back_unit w.table w.used fit))))
+        ((λ e. rw e (seeded_some unit_cell 0 0 (λ fit. rw (ap as_value (stands_tree stands VU e)) (back_unit w.table w.used fit))))
         also (λ e.
-        let h = part-holds 1 (head_below stands VL e 1 tt tt) (head_stands stands VL e 1 tt tt) in
-        rw e (seeded-some left_cell (part_of b n 1) 0 (λ fit. rw (ap as_value (stands_tree stands VL e)) (back_left w.table w.used fit h.below h.reads))))
+        let h = part_holds 1 (head_below stands VL e 1 tt tt) (head_stands stands VL e 1 tt tt) in
+        rw e (seeded_some left_cell (part_of b n 1) 0 (λ fit. rw (ap as_value (stands_tree stands VL e)) (back_left w.table w.used fit h.below h.reads))))
         also (λ e.
-        let h = part-holds 1 (head_below stands VR e 1 tt tt) (head_stands stands VR e 1 tt tt) in
-        rw e (seeded-some right_cell (part_of b n 1) 0 (λ fit. rw (ap as_value (stands_tree stands VR e)) (back_right w.table w.used fit h.below h.reads))))
+        let h = part_holds 1 (head_below stands VR e 1 tt tt) (head_stands stands VR e 1 tt tt) in
+        rw e (seeded_some right_cell (part_of b n 1) 0 (λ fit. rw (ap as_value (stands_tree stands VR e)) (back_right w.table w.used fit h.below h.reads))))
         also (λ e.
-        let h = part-holds 1 (head_below stands VP e 1 tt tt) (head_stands stands VP e 1 tt tt) in
-        let i = part-holds 2 (head_below stands VP e 2 tt tt) (head_stands stands VP e 2 tt tt) in
-        rw e (seeded-some pair_cell (part_of b n 1) (part_of b n 2) (λ fit. rw (ap as_value (stands_tree stands VP e)) (back_pair w.table w.used fit h.below h.reads i.below i.reads))))
+        let h = part_holds 1 (head_below stands VP e 1 tt tt) (head_stands stands VP e 1 tt tt) in
+        let i = part_holds 2 (head_below stands VP e 2 tt tt) (head_stands stands VP e 2 tt tt) in
+        rw e (seeded_some pair_cell (part_of b n 1) (part_of b n 2) (λ fit. rw (ap as_value (stands_tree stands VP e)) (back_pair w.table w.used fit h.below h.reads i.below i.reads))))
         also tt)
         (mark b.bytes b.index n) (stands_mark stands (among (VU ∷ VL ∷ VR ∷ VP ∷ [])) tt tt) refl
 
@@ -104,7 +104,7 @@ module _ (b : Text) (v : Valid b.bytes b.index b.records) (n : ℕ) (l : n < b.r
   seeded_next x = go (eqb (kind b.bytes b.index n) VALUE) refl
     where
       go : (t : Bool) → eqb (kind b.bytes b.index n) VALUE ≡ t → Seeded b (suc n) (pick t (seed b n w) (got 0 x w))
-      go true e = seeded-one (eqb-true (kind b.bytes b.index n) VALUE e)
+      go true e = seeded_one (eqb-true (kind b.bytes b.index n) VALUE e)
       go false e = seeded_none e x
 
 module _ (b : Text) (v : Valid b.bytes b.index b.records) where

@@ -55,16 +55,16 @@ module _ {b i : List ℕ} {f : ℕ} (s : Stands b i f FUNCTION) where
     pub type_lies : Lies b i f l
     type_lies = each_lies s FN (function_mark s) l k 1 (omega arith) (rw z at o) tt
 
-    type-stands : Stands b i (field b i f l) TYPE
-    type-stands = each_stands s FN (function_mark s) l k 1 (omega arith) (rw z at o) tt tt
+    type_stands : Stands b i (field b i f l) TYPE
+    type_stands = each_stands s FN (function_mark s) l k 1 (omega arith) (rw z at o) tt tt
 
-    type-place : place_of products n k (row_type (param_types (params_of (fun_of b i f)))) ≡ some (type_of b i (field b i f l))
+    type_place : place_of products n k (row_type (param_types (params_of (fun_of b i f)))) ≡ some (type_of b i (field b i f l))
     unfolding as_fun params_of
-    type-place =
+    type_place =
         let ts : List Ty = param_types (params_at (field b i f) (λ q. tree b i (field b i f q)) 2 n) in
         let many : length ts ≡ n = types_length (field b i f) (λ q. tree b i (field b i f q)) 2 n in
-        let at-l : 2 + 2 * k + 1 ≡ l = omega arith in
-        let last : get_or ts k one ≡ type_of b i (field b i f l) = rw at-l at (types_at_lem (field b i f) (λ q. tree b i (field b i f q)) 2 n k o) in
+        let at_l : 2 + 2 * k + 1 ≡ l = omega arith in
+        let last : get_or ts k one ≡ type_of b i (field b i f l) = rw at_l at (types_at_lem (field b i f) (λ q. tree b i (field b i f q)) 2 n k o) in
         let here : place_of products n k (row_type ts) ≡ some (type_of b i (field b i f l)) = rw (many, last) at (places_row ts k (rw many o)) in
         ap (λ t. place_of products n k (row_type (param_types (params_of (as_fun t))))) (stands_tree s FN (function_mark s)) ∙ rw (← z) here
 
@@ -86,8 +86,8 @@ module _ {b i : List ℕ} {f : ℕ} (s : Stands b i f FUNCTION) where
       pub params_found : (l u : ℕ) → y ≡ x → l ≡ 3 + 2 * k → u ≡ field b i f l → Gives b i (type_for x (scope_in (fun_of b i f))) u
       unfolding leads
       params_found l u h v q =
-          let stands : Stands b i u TYPE = rw q (type-stands n k l z o v) in
-          rw (in_scope x (fun_of b i f)) (seen_gives (skips_found w j o (omega arith) (rw q (type-place n k l z o v)) (present [] stands (name_is x _ y g h) refl) (λ r. omega (arith, stands_few stands))))
+          let stands : Stands b i u TYPE = rw q (type_stands n k l z o v) in
+          rw (in_scope x (fun_of b i f)) (seen_gives (skips_found w j o (omega arith) (rw q (type_place n k l z o v)) (present [] stands (name_is x _ y g h) refl) (λ r. omega (arith, stands_few stands))))
 
 -- a search for x in n live bindings: those from `at` on have not the name
 pub record Older (b i bs : List ℕ) (n base x at : ℕ) : Type 0 where
@@ -106,18 +106,18 @@ module _ {b i bs : List ℕ} {n base x at : ℕ} (w : Older b i bs n base x at) 
 
   -- the next binding
   module _ (u : ℕ) (o : 0 < at) (e : u ≡ at - 1) where
-    older-here : type_for x (scope_of b i bs n base) ≡ seek (find x (pattern_of b i (get_or bs (2 * u) 0))) (type_of b i (get_or bs (2 * u + 1) 0)) (type_for x (scope_of b i bs u base))
+    older_here : type_for x (scope_of b i bs n base) ≡ seek (find x (pattern_of b i (get_or bs (2 * u) 0))) (type_of b i (get_or bs (2 * u + 1) 0)) (type_for x (scope_of b i bs u base))
     unfolding scope_of type_for
-    older-here = let z : at ≡ suc u = omega arith in w.rest ∙ ap (λ k. type_for x (scope_of b i bs k base)) z
+    older_here = let z : at ≡ suc u = omega arith in w.rest ∙ ap (λ k. type_for x (scope_of b i bs k base)) z
 
     pub older_next : {s : ℕ} → Seen b i x (pattern_of b i (get_or bs (2 * u) 0)) (type_of b i (get_or bs (2 * u + 1) 0)) s → s ≡ NONE → Older b i bs n base x u
     unfolding seek
-    older_next h z = record { low = omega (arith, w.low); rest = older-here ∙ rw (seen_none h z) }
+    older_next h z = record { low = omega (arith, w.low); rest = older_here ∙ rw (seen_none h z) }
 
     pub older_found : {s : ℕ} → Seen b i x (pattern_of b i (get_or bs (2 * u) 0)) (type_of b i (get_or bs (2 * u + 1) 0)) s → (s ≡ NONE → ⊥) → Newest b i bs n base x s
     unfolding seek
     older_found (absent z f) there = absurd (there z)
-    older_found (present ks h f l) there = found h (older-here ∙ rw f l)
+    older_found (present ks h f l) there = found h (older_here ∙ rw f l)
 
 -- what the live bindings have of a name, and then the base
 module _ {b i bs : List ℕ} {n base x s : ℕ} where

@@ -107,9 +107,9 @@ module _ {b i : List ℕ} {p t : ℕ} (d : Binds b i p t) where
   pub binds_element : (n k j u s : ℕ) → mark b i p ≡ PT → n ≡ field b i p 0 → k < n → j ≡ 1 + k → u ≡ field b i p j → Gives b i (place_of products n k (type_of b i t)) s → Element b i p t n k u s
   unfolding as_pattern
   binds_element n k j u s e z o y f g =
-      let at-k : 1 + k * 1 ≡ j = omega arith in
+      let at_k : 1 + k * 1 ≡ j = omega arith in
       let row : fits (pat_row (row_at 1 (λ q. pattern_of b i (field b i p q)) 1 n)) (type_of b i t) ≡ true = rw z (rw (stands_tree d.pattern PT e) at d.fit) in
-      let fit : fits_at (pattern_of b i u) (place_of products n k (type_of b i t)) ≡ true = rw (f, ← at-k) (row_fits 1 (λ q. pattern_of b i (field b i p q)) 1 n (type_of b i t) row k o) in
+      let fit : fits_at (pattern_of b i u) (place_of products n k (type_of b i t)) ≡ true = rw (f, ← at_k) (row_fits 1 (λ q. pattern_of b i (field b i p q)) 1 n (type_of b i t) row k o) in
       let part = row_part d.pattern n k j e z o y u f in
       let here = place_fits (pattern_of b i u) g fit in
       record { binds = record { pattern = part.0; type = here.0; fit = here.2 }; below = part.1; place = here.1 }

@@ -69,18 +69,18 @@ module _ (b i j : List ℕ) (r p : ℕ) (x : Extends i j r p) where
 
   -- the depth of the deepest record that the fields name, where ds has the earlier depths
   module _ (ds : List ℕ) (g : (y : ℕ) → y < r → get_or ds y 0 ≡ depth b i y) where
-    deep-fields : (k left : ℕ) (nm : List ℕ) (d : ℕ) (nm' : List ℕ) (d' : ℕ) → fields b i ds r p k left nm d ≡ good nm' d' → d' ≡ deepest b j (depths b j r) r k left d
+    deep_fields : (k left : ℕ) (nm : List ℕ) (d : ℕ) (nm' : List ℕ) (d' : ℕ) → fields b i ds r p k left nm d ≡ good nm' d' → d' ≡ deepest b j (depths b j r) r k left d
     unfolding fields deepest
-    deep-fields k zero nm d nm' d' e = cc
-    deep-fields k (suc left) nm d nm' d' e =
+    deep_fields k zero nm d nm' d' e = cc
+    deep_fields k (suc left) nm d nm' d' e =
         let w = fields_good b i ds r p k left nm d nm' d' e in
         let f = w.first in
         let same : (y : ℕ) → y < r → get_or ds y 0 ≡ get_or (depths b j r) y 0 = λ y l. g y l ∙ sym (row_depths b j r y l ∙ depth_before y l) in
         let q : w.deep ≡ pick (eqb (names_at b p k) 0) d (deeper d (get_or (depths b j r) (field_at b p k) 0)) =
         f.deep ∙ pick_same _ d _ _ (λ z. ap (λ (v : ℕ). deeper d v) (same _ (f.fits.earlier (eqb-false _ _ z)))) in
-        rw (x.new, ← q) (deep-fields (k + 1) left _ _ nm' d' w.others)
+        rw (x.new, ← q) (deep_fields (k + 1) left _ _ nm' d' w.others)
 
     -- so the depth of the new record is one more
     pub deep_new : (nm nm' : List ℕ) (d : ℕ) → fields b i ds r p 0 (total_at b p) nm 0 ≡ good nm' d → d + 1 ≡ depth b j r
     unfolding depth
-    deep_new nm nm' d e = rw (x.new, ← deep-fields 0 (total_at b p) nm 0 nm' d e)
+    deep_new nm nm' d e = rw (x.new, ← deep_fields 0 (total_at b p) nm 0 nm' d e)

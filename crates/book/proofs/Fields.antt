@@ -84,15 +84,15 @@ module _ (b i j ds : List ℕ) (r p : ℕ) (x : Extends i j r p) (few : r < 4096
         absurd (lone k _ _ _ u.names (record { inside = rw e l; once = rw e o; is = rw e }))
 
     -- the fields from k on
-    fields-from : (k left : ℕ) (nm : List ℕ) (d : ℕ) → k + left ≡ total_at b p → Tracks b j r k nm → Good (fields b i ds r p k left nm d)
+    fields_from : (k left : ℕ) (nm : List ℕ) (d : ℕ) → k + left ≡ total_at b p → Tracks b j r k nm → Good (fields b i ds r p k left nm d)
     unfolding fields
-    fields-from k zero nm d z w = record { named = nm; deep = d; is = refl }
-    fields-from k (suc left) nm d z w =
+    fields_from k zero nm d z w = record { named = nm; deep = d; is = refl }
+    fields_from k (suc left) nm d z w =
         let l : k < total_at b p = omega arith in
         let g = judge_can b i ds r p k nm d (fit k l) (λ o. unnamed k nm l w.roll o (ℕ_discrete _ 0)) in
-        let h = fields-from (k + 1) left g.named g.deep (omega arith) (tracks_field k nm d _ _ l (judge_good b i ds r p k nm d _ _ g.is) w) in
+        let h = fields_from (k + 1) left g.named g.deep (omega arith) (tracks_field k nm d _ _ l (judge_good b i ds r p k nm d _ _ g.is) w) in
         record { named = h.named; deep = h.deep; is = rw g.is h.is }
 
     -- all of them
     pub fields_can : (nm : List ℕ) → Tracks b j r 0 nm → Good (fields b i ds r p 0 (total_at b p) nm 0)
-    fields_can nm w = fields-from 0 (total_at b p) nm 0 (omega arith) w
+    fields_can nm w = fields_from 0 (total_at b p) nm 0 (omega arith) w

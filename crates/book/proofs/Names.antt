@@ -119,8 +119,8 @@ module _ (b i : List ℕ) (r k : ℕ) where
     fresh s j x n e = w.marked s j x n (rw e z)
 
     -- this one is new
-    roll-marks : Roll b i r (k + 1) (set nm (field b i r k) 1)
-    roll-marks = record { marked = λ s j x n. marked s j x (names_next s j x n); used = λ x n. used x n (ℕ_discrete x (field b i r k)); once = λ s j t l x n m. once s j t l x (names_next s j x n) (names_next t l x m) }
+    roll_marks : Roll b i r (k + 1) (set nm (field b i r k) 1)
+    roll_marks = record { marked = λ s j x n. marked s j x (names_next s j x n); used = λ x n. used x n (ℕ_discrete x (field b i r k)); once = λ s j t l x n m. once s j t l x (names_next s j x n) (names_next t l x m) }
       where
         marked : (s j x : ℕ) → Names b i r k s j x ⊎ This b i r k s j x → get_or (set nm (field b i r k) 1) x 0 ≡ 0 → ⊥
         marked s j x (inl n) q = w.marked s j x n (sym (get_or-set_other nm _ x 1 0 (fresh s j x n)) ∙ q)
@@ -139,4 +139,4 @@ module _ (b i : List ℕ) (r k : ℕ) where
   -- one more field
   pub roll_field : (nm nm' : List ℕ) → k < total b i r → ((named b i r k ≡ 0 → ⊥) → field b i r k < length nm) → Noted (named b i r k) (field b i r k) nm nm' → Roll b i r k nm → Roll b i r (k + 1) nm'
   roll_field nm nm' l h (skips o e) w = rw e (roll_skips nm o w)
-  roll_field nm nm' l h (marks o z e) w = rw e (roll-marks nm l (h (λ q. true_false (sym o ∙ rw q))) o z w)
+  roll_field nm nm' l h (marks o z e) w = rw e (roll_marks nm l (h (λ q. true_false (sym o ∙ rw q))) o z w)

@@ -37,8 +37,8 @@ module _ (l : Layout) (n : ℕ) where
   each_role k q e z h g =
       let past : l.heads ≤ k = omega arith in
       let off : k - l.heads ≡ q * l.eachs + e = omega arith in
-      let in-it : q * l.eachs + e < n * l.eachs = group_inside q e h g in
-      rw (le-ltb k l.heads past, off, lt-ltb (q * l.eachs + e) (n * l.eachs) in-it, mul-add-mod_self_right q l.eachs e, mod-eq_of_lt g)
+      let in_it : q * l.eachs + e < n * l.eachs = group_inside q e h g in
+      rw (le-ltb k l.heads past, off, lt-ltb (q * l.eachs + e) (n * l.eachs) in_it, mul-add-mod_self_right q l.eachs e, mod-eq_of_lt g)
 
   pub each_inside : (k q e : ℕ) → k ≡ l.heads + q * l.eachs + e → q < n → e < l.eachs → k < total_of l n
   unfolding total_of
@@ -151,9 +151,9 @@ module _ {b i : List ℕ} {n : ℕ} (v : Valid b i n) (r : ℕ) (h : r < n) {k w
   -- what the field names is earlier and of the kind
   by_name : (kd : ℕ) → names w (field b i r k) ≡ kd → (kd ≡ 0 → ⊥) → Names b i r k kd
   by_name kd e some =
-      let is-named : named b i r k ≡ kd = rw f.is e in
-      let one : named b i r k ≡ 0 → ⊥ = λ z. some (sym is-named ∙ z) in
-      record { below = (v.sound r h).earlier k f.inside one; is = (v.sound r h).kinds k f.inside one ∙ is-named }
+      let is_named : named b i r k ≡ kd = rw f.is e in
+      let one : named b i r k ≡ 0 → ⊥ = λ z. some (sym is_named ∙ z) in
+      record { below = (v.sound r h).earlier k f.inside one; is = (v.sound r h).kinds k f.inside one ∙ is_named }
 
   -- a record's number is above those that it names
   pub names_earlier : T (is_kind w) → Names b i r k w

@@ -65,18 +65,18 @@ module _ (b i ds : List ℕ) (r p k : ℕ) (nm : List ℕ) (d : ℕ) where
 
   -- the verdict on a field, and what the code makes of it: refused, it refuses the record; else the next field goes on from there
   module _ (total : ℕ) (more : k < total) (v : Judged) (nm' : List ℕ) (is : verdict_of v nm' ≡ judge b i ds r p k nm d) where
-    field-judged : (w : Verdict) → verdict_of v nm' ≡ w → and_then w (λ l e. fields b i ds r p (k + 1) (total - (k + 1)) l e) ≡ fields b i ds r p k (total - k) nm d
+    field_judged : (w : Verdict) → verdict_of v nm' ≡ w → and_then w (λ l e. fields b i ds r p (k + 1) (total - (k + 1)) l e) ≡ fields b i ds r p k (total - k) nm d
     unfolding fields
-    field-judged w e =
+    field_judged w e =
         let q : total - k ≡ suc (total - (k + 1)) = omega arith in
         let z : judge b i ds r p k nm d ≡ w = sym is ∙ e in
         rw (q, z)
 
     pub field_refused : (f : Fault) → v ≡ judgeds.Bad f → bad f ≡ fields b i ds r p k (total - k) nm d
-    field_refused f e = field-judged (bad f) (ap (λ (u : Judged). verdict_of u nm') e)
+    field_refused f e = field_judged (bad f) (ap (λ (u : Judged). verdict_of u nm') e)
 
     pub field_passed : (d' : ℕ) → v ≡ judgeds.Good d' → fields b i ds r p (k + 1) (total - (k + 1)) nm' d' ≡ fields b i ds r p k (total - k) nm d
-    field_passed d' e = field-judged (good nm' d') (ap (λ (u : Judged). verdict_of u nm') e)
+    field_passed d' e = field_judged (good nm' d') (ap (λ (u : Judged). verdict_of u nm') e)
 
 -- after the last field
 pub fields_end : (b i ds : List ℕ) (r p k total : ℕ) (nm : List ℕ) (d : ℕ) → total ≤ k → fields b i ds r p k (total - k) nm d ≡ good nm d

@@ -36,7 +36,7 @@ use Rattle.meaning.proofs.Declarations.{at_left, at_right, is_sum, is_variant, s
 use Rattle.meaning.proofs.Calls.{then_value, agree_called, agree_called_pair, agree_beside, agree_followed, agree_left, agree_right, agree_iden, agree_value, agree_unit, agree_fail, agree_unwrap_left, agree_unwrap_right, agree_is_none, agree_assert, agree_jet, agree_hash}
 use Rattle.meaning.proofs.Rows.{agree_row, agree_called_row, agree_list, agree_variant_row}
 use Rattle.meaning.proofs.Environments.{fits_bound, finds, params_match}
-use Rattle.meaning.proofs.Choices.{ArmsAgree, no_arms, more_arms, agree_match_enum, agree_match}
+use Rattle.meaning.proofs.Choices.{ArmsAgree, no_arms_agree, more_arms_agree, agree_match_enum, agree_match}
 use Rattle.meaning.proofs.Folds.{agree_list_fold, agree_array_fold}
 use Rattle.meaning.proofs.Loops.{agree_loop}
 
@@ -113,14 +113,14 @@ module _ {M : Type 0} {ws : Witnesses} (C : ℕ → Value → Type 0) (W : Ty �
     agree (constant r t v u w) m h s = retyped (agree_value h.0) (same_is u t h.1)
     agree (witness r t k x) m h s = supplied x t _ (has t k x s)
     agree (variable r t x) m h s = finds m x t h
-    agree (tuple r t es) m h s = retyped (agree_row (agree-all es m h.0 s)) (sym (same_is t _ h.1))
+    agree (tuple r t es) m h s = retyped (agree_row (agree_all es m h.0 s)) (sym (same_is t _ h.1))
     agree (list r t n es) m h s =
         let i = is_list n t (types es) _ h.1 in
-        retyped (agree_list (top_of n - 1) i.0 (agree-all es m h.0 s.2) i.2 (within n _ s.0 s.1)) (sym i.1)
+        retyped (agree_list (top_of n - 1) i.0 (agree_all es m h.0 s.2) i.2 (within n _ s.0 s.1)) (sym i.1)
     agree (in_left r t e) m h s = let i = at_left t (type_is e) h.1 in retyped (agree_left (agree e m h.0 s)) (sym i.1)
     agree (in_right r t e) m h s = let i = at_right t (type_is e) h.1 in retyped (agree_right (agree e m h.0 s)) (sym i.1)
-    agree (variant r t k n es) m h s = agree_variant_row (path n k) t (is_variant n k t (row_type (types es)) h.1) (agree-all es m h.0 s.1)
-    agree (block r t ss) m h s = retyped (agree-run ss m h.0 s) (same_is (end_type ss) t h.1)
+    agree (variant r t k n es) m h s = agree_variant_row (path n k) t (is_variant n k t (row_type (types es)) h.1) (agree_all es m h.0 s.1)
+    agree (block r t ss) m h s = retyped (agree_run ss m h.0 s) (same_is (end_type ss) t h.1)
     agree (match r t e p l q g) m h s =
         let i = all_are_lem t (type_is l) (type_is g ∷ []) h.6 in
         let j = all_are_lem t (type_is g) [] i.1 in
@@ -128,10 +128,10 @@ module _ {M : Type 0} {ws : Witnesses} (C : ℕ → Value → Type 0) (W : Ty �
         (agree_match h.0
         (bound_agrees h.1 m (λ x names n. retyped (agree l n h.2 s.1) i.0))
         (bound_agrees h.3 m (λ x names n. retyped (agree g n h.4 s.2) j.0)))
-    agree (match_enum r t e cs) m h s = agree_beside (agree e m h.2 s.1) (agree_match_enum (arm_count cs) (arms_count ws cs _) s.0 h.0 (agree-arms cs _ zero _ t m h.1 s.2 h.3))
+    agree (match_enum r t e cs) m h s = agree_beside (agree e m h.2 s.1) (agree_match_enum (arm_count cs) (arms_count ws cs _) s.0 h.0 (agree_arms cs _ zero _ t m h.1 s.2 h.3))
     agree (jet r t z j es) m h s =
         let i = both_true _ _ h.1 in
-        retyped (agree_called_row y z (agree-all es m h.0 s.1) (λ vs o. agree_jet j s.0 (subst (AllOf vs) (same_all_lem (types es) _ i.0) o))) (sym (same_is t _ i.1))
+        retyped (agree_called_row y z (agree_all es m h.0 s.1) (λ vs o. agree_jet j s.0 (subst (AllOf vs) (same_all_lem (types es) _ i.0) o))) (sym (same_is t _ i.1))
     agree (unwrap_left r t z e) m h s = let i = at_left (type_is e) t h.1 in agree_called y z (retyped (agree e m h.0 s) i.1) (λ x o. agree_unwrap_left o)
     agree (unwrap_right r t z e) m h s = let i = at_right (type_is e) t h.1 in agree_called y z (retyped (agree e m h.0 s) i.1) (λ x o. agree_unwrap_right o)
     agree (debug r t z e) m h s = retyped (rw then_value at (agree_called y z (agree e m h.0 s) (λ x o. agree_iden o))) (same_is (type_is e) t h.1)
@@ -146,7 +146,7 @@ module _ {M : Type 0} {ws : Witnesses} (C : ℕ → Value → Type 0) (W : Ty �
     agree (cast r t e) m h s = retyped (agree e m h.0 s) (same_is (type_is e) t h.1)
     agree (call r t f es) m h s =
         let i = both_true _ _ h.2 in
-        retyped (agree_called_row y 0 (agree-all es m h.0 s.1) (λ vs o. serves f h.1 s.0 vs (subst (AllOf vs) (same_all_lem (types es) (takes f) i.0) o))) (sym (same_is t _ i.1))
+        retyped (agree_called_row y 0 (agree_all es m h.0 s.1) (λ vs o. serves f h.1 s.0 vs (subst (AllOf vs) (same_all_lem (types es) (takes f) i.0) o))) (sym (same_is t _ i.1))
     agree (list_fold r t f n e a) m h s =
         let i = is_fold _ (takes f) (gives f) t (type_is e) (type_is a) h.3 in
         agree_called_pair y 0 (retyped (agree e m h.0 s.2) i.goes) (retyped (agree a m h.1 s.3) i.starts)
@@ -162,28 +162,28 @@ module _ {M : Type 0} {ws : Witnesses} (C : ℕ → Value → Type 0) (W : Ty �
         (agree_called_pair y 0 (agree a m h.0 s.2) (agree x m h.1 s.3)
         (λ c z o q. looped w (top_of w) s.0 z (λ d n u l. retyped (turns d z n u q l) (i.gives ∙ i.sums)) c o))
         (sym i.sums)
-    agree (hash r t z ps) m h s = agree_called_row y z (agree-words ps m h.0 s.1) (λ vs o. agree_hash s.0 (widths ps) (row_value vs) t)
+    agree (hash r t z ps) m h s = agree_called_row y z (agree_words ps m h.0 s.1) (λ vs o. agree_hash s.0 (widths ps) (row_value vs) t)
     agree no_expr m h s = absurd h
 
-    agree-all : (es : Exprs) {sc : List Binding} {v : Value} {env : List Held} → Matches sc v env → AllTyped sc es → Sounds C W M es → AgreesAll M ws v (compiles y es (patterns sc)) (means ws es env) (types es)
-    agree-all no_exprs m h s = no_more
-    agree-all (more_exprs e es) m h s = and_more (agree e m h.0 s.0) (agree-all es m h.1 s.1)
+    agree_all : (es : Exprs) {sc : List Binding} {v : Value} {env : List Held} → Matches sc v env → AllTyped sc es → Sounds C W M es → AgreesAll M ws v (compiles y es (patterns sc)) (means ws es env) (types es)
+    agree_all no_exprs m h s = no_more
+    agree_all (more_exprs e es) m h s = and_more (agree e m h.0 s.0) (agree_all es m h.1 s.1)
 
-    agree-words : (ps : Parts) {sc : List Binding} {v : Value} {env : List Held} → Matches sc v env → WordsTyped sc ps → SoundParts C W M ps → AgreesAll M ws v (compile_words y ps (patterns sc)) (words ws ps env) (word_types ps)
-    agree-words no_parts m h s = no_more
-    agree-words (more_parts w e ps) m h s = and_more (agree e m h.0 s.0) (agree-words ps m h.1 s.1)
+    agree_words : (ps : Parts) {sc : List Binding} {v : Value} {env : List Held} → Matches sc v env → WordsTyped sc ps → SoundParts C W M ps → AgreesAll M ws v (compile_words y ps (patterns sc)) (words ws ps env) (word_types ps)
+    agree_words no_parts m h s = no_more
+    agree_words (more_parts w e ps) m h s = and_more (agree e m h.0 s.0) (agree_words ps m h.1 s.1)
 
-    agree-arms : (cs : Arms) (n k : ℕ) (u t : Ty) {sc : List Binding} {v : Value} {env : List Held} → Matches sc v env → ArmsTyped n k u sc cs → SoundArms C W M cs → all_are t (arm_types cs) ≡ true → ArmsAgree M ws v n u t k (compile_arms y cs (patterns sc)) (arms ws cs env)
-    agree-arms no_arms n k u t m h s e = no_arms
-    agree-arms (more_arms p e cs) n k u t m h s q =
+    agree_arms : (cs : Arms) (n k : ℕ) (u t : Ty) {sc : List Binding} {v : Value} {env : List Held} → Matches sc v env → ArmsTyped n k u sc cs → SoundArms C W M cs → all_are t (arm_types cs) ≡ true → ArmsAgree M ws v n u t k (compile_arms y cs (patterns sc)) (arms ws cs env)
+    agree_arms no_arms n k u t m h s e = no_arms_agree
+    agree_arms (more_arms p e cs) n k u t m h s q =
         let i = all_are_lem t (type_is e) (arm_types cs) q in
-        more_arms (bound_agrees h.0 m (λ x names l. retyped (agree e l h.1 s.0) i.0)) (agree-arms cs n (suc k) u t m h.2 s.1 i.1)
+        more_arms_agree (bound_agrees h.0 m (λ x names l. retyped (agree e l h.1 s.0) i.0)) (agree_arms cs n (suc k) u t m h.2 s.1 i.1)
 
-    agree-run : (ss : Stmts) {sc : List Binding} {v : Value} {env : List Held} → Matches sc v env → RunTyped sc ss → SoundRun C W M ss → Agrees M ws (compile_run y ss (patterns sc)) v (run ws ss env) (end_type ss)
-    agree-run (assign z p e rest) m h s = agree_beside (agree e m h.0 s.0) (bound_agrees h.1 m (λ x names l. agree-run rest l h.2 s.1))
-    agree-run (does z e rest) m h s = agree_followed (agree e m h.0 s.0) (agree-run rest m h.2 s.1)
-    agree-run (end e) m h s = agree e m h s
-    agree-run no_end m h s = agree_unit
+    agree_run : (ss : Stmts) {sc : List Binding} {v : Value} {env : List Held} → Matches sc v env → RunTyped sc ss → SoundRun C W M ss → Agrees M ws (compile_run y ss (patterns sc)) v (run ws ss env) (end_type ss)
+    agree_run (assign z p e rest) m h s = agree_beside (agree e m h.0 s.0) (bound_agrees h.1 m (λ x names l. agree_run rest l h.2 s.1))
+    agree_run (does z e rest) m h s = agree_followed (agree e m h.0 s.0) (agree_run rest m h.2 s.1)
+    agree_run (end e) m h s = agree e m h s
+    agree_run no_end m h s = agree_unit
 
     serves : (f : Fun) → FunTyped f → SoundFun C W M f → (vs : List Value) → AllOf vs (takes f) → Agrees M ws (compile_fun y f) (row_value vs) (apply ws f vs) (gives f)
     serves (fun r t ps e) h s vs o = retyped (agree e (params_match ps vs o) h.1 s) h.2

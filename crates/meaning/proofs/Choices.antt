@@ -94,19 +94,19 @@ one_of = parts_all One (λ u v o h l. absurd (omega arith)) one_alone one_more
 -- what each arm from k on makes of its variant's payload beside the input agrees
 pub data ArmsAgree (M : Type 0) (ws : Witnesses) (input : Value) (n : ℕ) (u t : Ty) : ℕ → List Term → List (Value → Outcome) → Type 0 where
   no_arms_agree : {k : ℕ} → ArmsAgree M ws input n u t k [] []
-  more_arms : {k : ℕ} {p : Term} {ps : List Term} {f : Value → Outcome} {fs : List (Value → Outcome)} → ((a : Value) → Of a (variant_type n k u) → Agrees M ws p (pair a input) (f a) t) → ArmsAgree M ws input n u t (suc k) ps fs → ArmsAgree M ws input n u t k (p ∷ ps) (f ∷ fs)
+  more_arms_agree : {k : ℕ} {p : Term} {ps : List Term} {f : Value → Outcome} {fs : List (Value → Outcome)} → ((a : Value) → Of a (variant_type n k u) → Agrees M ws p (pair a input) (f a) t) → ArmsAgree M ws input n u t (suc k) ps fs → ArmsAgree M ws input n u t k (p ∷ ps) (f ∷ fs)
 
 module _ {M : Type 0} {ws : Witnesses} {input : Value} {u t : Ty} where
   -- there are as many terms as arms
   arms_length : {n k : ℕ} {ps : List Term} {fs : List (Value → Outcome)} → ArmsAgree M ws input n u t k ps fs → length ps ≡ length fs
   arms_length no_arms_agree = refl
-  arms_length (more_arms h hs) = ap suc (arms_length hs)
+  arms_length (more_arms_agree h hs) = ap suc (arms_length hs)
 
   -- arm k + i is one of those from k on
   arm_agrees : {n k : ℕ} {ps : List Term} {fs : List (Value → Outcome)} → ArmsAgree M ws input n u t k ps fs → (i : ℕ) → i < length fs → (a : Value) → Of a (variant_type n (k + i) u) → Agrees M ws (get_or ps i terms.unit) (pair a input) (get_or fs i (λ v. stuck) a) t
   arm_agrees no_arms_agree i l a o = absurd (omega arith)
-  arm_agrees {k = k} (more_arms h hs) zero l a o = let z : k + 0 ≡ k = omega arith in h a (rw z at o)
-  arm_agrees {k = k} (more_arms h hs) (suc i) l a o = let z : k + suc i ≡ suc k + i = omega arith in arm_agrees hs i (omega arith) a (rw z at o)
+  arm_agrees {k = k} (more_arms_agree h hs) zero l a o = let z : k + 0 ≡ k = omega arith in h a (rw z at o)
+  arm_agrees {k = k} (more_arms_agree h hs) (suc i) l a o = let z : k + suc i ≡ suc k + i = omega arith in arm_agrees hs i (omega arith) a (rw z at o)
 
   -- a match on an enum agrees where its arms do
   pub agree_match_enum : {ps : List Term} {fs : List (Value → Outcome)} (n : ℕ) → length fs ≡ n → 0 < n → has_places n u ≡ true → ArmsAgree M ws input n u t 0 ps fs → (v : Value) → Of v u → Agrees M ws (case_tree ps) (pair v input) (choose (length fs) zero fs v) t
@@ -117,8 +117,8 @@ module _ {M : Type 0} {ws : Witnesses} {input : Value} {u t : Ty} where
       let a : Value = i.part in
       let low : k < length fs = omega (arith, i.low) in
       let many : length ps ≡ n = arms_length g ∙ z in
-      let zero-plus : 0 + k ≡ k = omega arith in
-      let c : Agrees M ws (get_or ps k terms.unit) (pair a input) (get_or fs k (λ w. stuck) a) t = arm_agrees g k low a (rw zero-plus i.typed) in
+      let zero_plus : 0 + k ≡ k = omega arith in
+      let c : Agrees M ws (get_or ps k terms.unit) (pair a input) (get_or fs k (λ w. stuck) a) t = arm_agrees g k low a (rw zero_plus i.typed) in
       let runs : eval ws (case_tree ps) (pair (behind (path n k) a) input) ≡ eval ws (get_or ps k terms.unit) (pair a input) = rw many at (arm_runs ws ps k (omega arith) a input) in
       let chosen : choose n zero fs (behind (path n k) a) ≡ get_or fs k (λ w. stuck) a = rw z at (arm_chosen fs k low a) in
       subst (λ w. Agrees M ws (case_tree ps) (pair w input) (choose (length fs) zero fs w) t) (sym i.is) (rw (z, chosen) (record { same = runs ∙ c.same; fine = c.fine }))
@@ -138,5 +138,5 @@ two_chosen f g (pair v w) = refl
 -- a match on a sum is a match with two arms
 pub agree_match : {M : Type 0} {ws : Witnesses} {input : Value} {u t : Ty} {p q : Term} {f g : Value → Outcome} → has_places 2 u ≡ true → ((a : Value) → Of a (variant_type 2 0 u) → Agrees M ws p (pair a input) (f a) t) → ((a : Value) → Of a (variant_type 2 1 u) → Agrees M ws q (pair a input) (g a) t) → (v : Value) → Of v u → Agrees M ws (case p q) (pair v input) (by_side v f g) t
 agree_match {M} {ws} {input} {u} {t} {p} {q} {f} {g} h l r v o =
-    let a : Agrees M ws (case_tree (p ∷ q ∷ [])) (pair v input) (choose 2 zero (f ∷ g ∷ []) v) t = agree_match_enum 2 refl (omega arith) h (more_arms l (more_arms r no_arms_agree)) v o in
+    let a : Agrees M ws (case_tree (p ∷ q ∷ [])) (pair v input) (choose 2 zero (f ∷ g ∷ []) v) t = agree_match_enum 2 refl (omega arith) h (more_arms_agree l (more_arms_agree r no_arms_agree)) v o in
     rw (two_cases p q, two_chosen f g v) at a

@@ -66,23 +66,23 @@ module _ (b ws : List ℕ) (n : ℕ) (checked : check_of b ≡ checks.Records n)
     abbrev table : List ℕ
     table = lowered.table_of b y m
 
-    abbrev given-it : Given
-    given-it = given book ws table
+    abbrev given_it : Given
+    given_it = given book ws table
 
     -- LOWER's table is well formed, and its last node unfolds to what the root is lowered to
-    unfolded : (Accepts b table c n) × (term_at given-it (c - 1) ≡ compile y root (ignore ∷ []))
+    unfolded : (Accepts b table c n) × (term_at given_it (c - 1) ≡ compile y root (ignore ∷ []))
     unfolded =
         tables.lowered b n typed.reads y m c accepted ws (compile y root (ignore ∷ []))
-        (stored (Unit {0}) given-it (λ v w i. i) (λ t k x i. (i.0, i.1)) y root (ignore ∷ []) 0 (sound_root b n ws (Unit {0}) typed supplied (λ r l q. tt)))
+        (stored (Unit {0}) given_it (λ v w i. i) (λ t k x i. (i.0, i.1)) y root (ignore ∷ []) 0 (sound_root b n ws (Unit {0}) typed supplied (λ r l q. tt)))
 
     -- so the published meaning of the table is the source meaning
-    source-meant : meant b ws table c n ≡ source_of b n ws
+    source_meant : meant b ws table c n ≡ source_of b n ws
     unfolding meaning_of
-    source-meant = ap (λ (t : Term). eval (witnesses_of book ws) t unit) unfolded.1 ∙ (agreed (Unit {0}) (λ r l q. tt) y).same
+    source_meant = ap (λ (t : Term). eval (witnesses_of book ws) t unit) unfolded.1 ∙ (agreed (Unit {0}) (λ r l q. tt) y).same
 
     -- what RUN says of the published meaning it says of the source meaning
-    came-out : (k : ℕ) → ComesOut (run_of b ws table c k) (ran.table_of b ws table c k) (source_of b n ws) ⊎ Short (run_of b ws table c k)
-    came-out k = rw source-meant at (comes_out b ws table c k n unfolded.0)
+    came_out : (k : ℕ) → ComesOut (run_of b ws table c k) (ran.table_of b ws table c k) (source_of b n ws) ⊎ Short (run_of b ws table c k)
+    came_out k = rw source_meant at (comes_out b ws table c k n unfolded.0)
 
 -- an outcome's way, by number
 abbrev pub way_of : Outcome → ℕ
@@ -147,4 +147,4 @@ pub what_you_see_is_what_runs : Demand3
 what_you_see_is_what_runs b ws n m c k y checked accepted supplied reached =
     as_meant _ _ (source_of b n ws) (root_type b n)
     (fine_good (source_of b n ws) (root_type b n) (agreed b ws n checked supplied (Unit {0}) (λ r l q. tt) y).fine reached)
-    (came-out b ws n checked supplied y m c accepted k)
+    (came_out b ws n checked supplied y m c accepted k)

@@ -171,36 +171,36 @@ module _ (M : Type 0) (ws : Witnesses) (f : Value → Value → Outcome) (b : Ty
     Lists t k = (v : Value) → Of v (fewer a k) → Folded t v (listed k v)
 
     -- one element
-    one-folded : {t : Term} → Steps t → {v : Value} → Of v a → Folded t v (some (v ∷ []))
+    one_folded : {t : Term} → Steps t → {v : Value} → Of v a → Folded t v (some (v ∷ []))
     unfolding fold
-    one-folded h {v} i = record { all = v ∷ []; there = refl; agrees = λ c k. rw (fold_one f (f v c)) (h v c i k) }
+    one_folded h {v} i = record { all = v ∷ []; there = refl; agrees = λ c k. rw (fold_one f (f v c)) (h v c i k) }
 
-    arrays-one : {t : Term} → Steps t → Arrays t 1
+    arrays_one : {t : Term} → Steps t → Arrays t 1
     unfolding elements element_at
-    arrays-one h v i = rw (path_one 0) (one-folded h (subst (Of v) (row_one one product a) i))
+    arrays_one h v i = rw (path_one 0) (one_folded h (subst (Of v) (row_one one product a) i))
 
     -- the parts of an array by its split; an array of twice as many
-    arrays-both : (n : ℕ) → 2 ≤ n → {l r : Term} → Arrays l (split_of n) → Arrays r (n - split_of n) → Arrays (fold_both l r) n
-    arrays-both n two {l} {r} h g v i = go v (subst (Of v) (array_parts a n two) i)
+    arrays_both : (n : ℕ) → 2 ≤ n → {l r : Term} → Arrays l (split_of n) → Arrays r (n - split_of n) → Arrays (fold_both l r) n
+    arrays_both n two {l} {r} h g v i = go v (subst (Of v) (array_parts a n two) i)
       where
         go : (w : Value) → Of w (product (array_type a (split_of n)) (array_type a (n - split_of n))) → Folded (fold_both l r) w (elements n 0 n w)
         go w (of_pair {v = x} {w = y} j k) = rw (elements_pair n two x y) (both_folded (h x j) (g y k))
 
-    arrays-double : (k : ℕ) {t : Term} → Arrays t (2 ^ k) → Arrays (fold_both t t) (2 ^ suc k)
-    arrays-double k {t} h = let d = halves k in arrays-both (2 ^ suc k) d.0 (subst (Arrays t) d.1 h) (subst (Arrays t) d.2 h)
+    arrays_double : (k : ℕ) {t : Term} → Arrays t (2 ^ k) → Arrays (fold_both t t) (2 ^ suc k)
+    arrays_double k {t} h = let d = halves k in arrays_both (2 ^ suc k) d.0 (subst (Arrays t) d.1 h) (subst (Arrays t) d.2 h)
 
     -- the powers, from 2 ^ i on; the tree of any size
-    arrays-powers : (j k i m : ℕ) {t : Term} → i + k ≡ m → k ≤ j → Arrays t (2 ^ i) → Arrays (get_or (powers j t) k fail) (2 ^ m)
+    arrays_powers : (j k i m : ℕ) {t : Term} → i + k ≡ m → k ≤ j → Arrays t (2 ^ i) → Arrays (get_or (powers j t) k fail) (2 ^ m)
     unfolding powers
-    arrays-powers zero zero i m {t} e l h = subst (λ (q : ℕ). Arrays t (2 ^ q)) (omega arith) h
-    arrays-powers zero (suc k) i m e l h = absurd (omega arith)
-    arrays-powers (suc j) zero i m {t} e l h = subst (λ (q : ℕ). Arrays t (2 ^ q)) (omega arith) h
-    arrays-powers (suc j) (suc k) i m e l h = arrays-powers j k (suc i) m (omega arith) (omega arith) (arrays-double i h)
+    arrays_powers zero zero i m {t} e l h = subst (λ (q : ℕ). Arrays t (2 ^ q)) (omega arith) h
+    arrays_powers zero (suc k) i m e l h = absurd (omega arith)
+    arrays_powers (suc j) zero i m {t} e l h = subst (λ (q : ℕ). Arrays t (2 ^ q)) (omega arith) h
+    arrays_powers (suc j) (suc k) i m e l h = arrays_powers j k (suc i) m (omega arith) (omega arith) (arrays_double i h)
 
-    arrays-tree : (fs : List Term) (p : ℕ) → ((k : ℕ) → k ≤ p → Arrays (get_or fs k fail) (2 ^ k)) → (d n : ℕ) → 0 < n → n ≤ d → n < 2 ^ suc p → Arrays (tree_fold d fs n) n
+    arrays_tree : (fs : List Term) (p : ℕ) → ((k : ℕ) → k ≤ p → Arrays (get_or fs k fail) (2 ^ k)) → (d n : ℕ) → 0 < n → n ≤ d → n < 2 ^ suc p → Arrays (tree_fold d fs n) n
     unfolding tree_fold
-    arrays-tree fs p h zero n o l u = absurd (omega arith)
-    arrays-tree fs p h (suc d) n o l u =
+    arrays_tree fs p h zero n o l u = absurd (omega arith)
+    arrays_tree fs p h (suc d) n o l u =
         let q : ℕ = top_of n in
         let t = top_of_lem n o in
         let double = two-pow-succ q in
@@ -209,37 +209,37 @@ module _ (M : Type 0) (ws : Witnesses) (f : Value → Value → Outcome) (b : Ty
         (λ w.
         let s : n - 2 ^ q ≡ split_of n = sym (split_is q n w (omega arith)) in
         let r : 2 ^ q ≡ n - split_of n = omega arith in
-        let i : Arrays (tree_fold d fs (n - 2 ^ q)) (n - 2 ^ q) = arrays-tree fs p h d (n - 2 ^ q) (omega arith) (omega (arith, pow_pos q)) (omega arith) in
-        rw (ne_eqb n (2 ^ q) (λ e. omega arith), tree_fold) (arrays-both n (omega (arith, pow_pos q)) (subst (Arrays _) s i) (subst (Arrays _) r g)))
+        let i : Arrays (tree_fold d fs (n - 2 ^ q)) (n - 2 ^ q) = arrays_tree fs p h d (n - 2 ^ q) (omega arith) (omega (arith, pow_pos q)) (omega arith) in
+        rw (ne_eqb n (2 ^ q) (λ e. omega arith), tree_fold) (arrays_both n (omega (arith, pow_pos q)) (subst (Arrays _) s i) (subst (Arrays _) r g)))
         (λ w.
         let e : 2 ^ q ≡ n = omega arith in
         rw (eq-eqb n (2 ^ q) (sym e), tree_fold) (subst (Arrays _) e g))
 
     -- the last block of a list; the blocks before it, each of twice as many
-    lists-one : {t : Term} → Steps t → Lists (terms.case (terms.drop terms.iden) t) 0
+    lists_one : {t : Term} → Steps t → Lists (terms.case (terms.drop terms.iden) t) 0
     unfolding eval fewer listed fold
-    lists-one h v (of_left i) = record { all = []; there = refl; agrees = λ c k. record { same = refl; fine = k } }
-    lists-one h v (of_right i) = as_folded (one-folded h i) (λ c. refl)
+    lists_one h v (of_left i) = record { all = []; there = refl; agrees = λ c k. record { same = refl; fine = k } }
+    lists_one h v (of_right i) = as_folded (one_folded h i) (λ c. refl)
 
-    lists-more : (k : ℕ) {l r : Term} → Arrays l (2 ^ suc k) → Lists r k → Lists (next_fold l r) (suc k)
+    lists_more : (k : ℕ) {l r : Term} → Arrays l (2 ^ suc k) → Lists r k → Lists (next_fold l r) (suc k)
     unfolding eval fewer listed next_fold
-    lists-more k h g v (of_pair {w = y} (of_left i) j) = as_folded (g y j) (λ c. refl)
-    lists-more k h g v (of_pair {w = y} (of_right {v = x} i) j) = block_folded (h x (subst (Of x) (power_array a (suc k)) i)) (g y j)
+    lists_more k h g v (of_pair {w = y} (of_left i) j) = as_folded (g y j) (λ c. refl)
+    lists_more k h g v (of_pair {w = y} (of_right {v = x} i) j) = block_folded (h x (subst (Of x) (power_array a (suc k)) i)) (g y j)
 
-    lists-doubled : (k i m : ℕ) {l r : Term} → i + k ≡ m → Arrays l (2 ^ i) → Lists r i → Lists (doubled k l r) m
+    lists_doubled : (k i m : ℕ) {l r : Term} → i + k ≡ m → Arrays l (2 ^ i) → Lists r i → Lists (doubled k l r) m
     unfolding doubled
-    lists-doubled zero i m {r = r} e h g = subst (Lists r) (omega arith) g
-    lists-doubled (suc k) i m e h g = let w = arrays-double i h in lists-doubled k (suc i) m (omega arith) w (lists-more i w g)
+    lists_doubled zero i m {r = r} e h g = subst (Lists r) (omega arith) g
+    lists_doubled (suc k) i m e h g = let w = arrays_double i h in lists_doubled k (suc i) m (omega arith) w (lists_more i w g)
 
 -- a list's fold means what the source says, where its function does
 pub agree_list_fold : {M : Type 0} {ws : Witnesses} (k : ℕ) {t : Term} {f : Value → Value → Outcome} {a b : Ty} → ((x c : Value) → Of x a → Of c b → Agrees M ws t (pair x c) (f x c) b) → (v c : Value) → Of v (fewer a k) → Of c b → Agrees M ws (fold_list k t) (pair v c) (folding f (listed k v) c) b
 unfolding fold_list
 agree_list_fold {M} {ws} k {f = f} {a = a} {b = b} h v c i j =
-    folded M ws f b (lists-doubled M ws f b a k 0 k (omega arith) (arrays-one M ws f b a h) (lists-one M ws f b a h) v i) c j
+    folded M ws f b (lists_doubled M ws f b a k 0 k (omega arith) (arrays_one M ws f b a h) (lists_one M ws f b a h) v i) c j
 
 -- an array's fold means what the source says, where its function does
 pub agree_array_fold : {M : Type 0} {ws : Witnesses} (n : ℕ) → 0 < n → {t : Term} {f : Value → Value → Outcome} {a b : Ty} → ((x c : Value) → Of x a → Of c b → Agrees M ws t (pair x c) (f x c) b) → (v c : Value) → Of v (array_type a n) → Of c b → Agrees M ws (fold_array n t) (pair v c) (folding f (elements n zero n v) c) b
 unfolding fold_array
 agree_array_fold {M} {ws} n o {t = t} {f = f} {a = a} {b = b} h v c i j =
     let p : ℕ = top_of n in
-    folded M ws f b (arrays-tree M ws f b a (powers p t) p (λ k l. arrays-powers M ws f b a p k 0 k (omega arith) l (arrays-one M ws f b a h)) n n o (omega arith) (omega (arith, (top_of_lem n o).less, two-pow-succ p)) v i) c j
+    folded M ws f b (arrays_tree M ws f b a (powers p t) p (λ k l. arrays_powers M ws f b a p k 0 k (omega arith) l (arrays_one M ws f b a h)) n n o (omega arith) (omega (arith, (top_of_lem n o).less, two-pow-succ p)) v i) c j

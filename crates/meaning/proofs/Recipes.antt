@@ -138,20 +138,20 @@ module _ {g : Given} (r : ℕ) where
 
   -- the tree over n of the n₀ elements whose folds are there
   module _ {n₀ c₀ : ℕ} {ts : List Term} {fs : List ℕ} (folds : Folds g (top_of n₀) ts fs c₀) where
-    ran-top : (n : ℕ) → n ≤ n₀ → Ran g (pure (get_or fs (top_of n) 0)) c₀ (Folded g (get_or ts (top_of n) fail) (n ≡ n₀))
-    ran-top n l =
+    ran_top : (n : ℕ) → n ≤ n₀ → Ran g (pure (get_or fs (top_of n) 0)) c₀ (Folded g (get_or ts (top_of n) fail) (n ≡ n₀))
+    ran_top n l =
         let o = top_mono n n₀ l in
         ran_pure _ (record { below = folds.below (top_of n) o; is = folds.are (top_of n) o; last = λ e. rw e folds.last })
 
-    ran-tree : (d n : ℕ) → n ≤ n₀ → Ran g (arrays.tree_fold d r fs n) c₀ (Folded g (tree_fold d ts n) (n ≡ n₀))
+    ran_tree : (d n : ℕ) → n ≤ n₀ → Ran g (arrays.tree_fold d r fs n) c₀ (Folded g (tree_fold d ts n) (n ≡ n₀))
     unfolding arrays.tree_fold tree_fold
-    ran-tree zero n l = ran-top n l
-    ran-tree (suc d) n l = go (eqb n (2 ^ top_of n)) (ran-tree d (n - 2 ^ top_of n) (omega arith))
+    ran_tree zero n l = ran_top n l
+    ran_tree (suc d) n l = go (eqb n (2 ^ top_of n)) (ran_tree d (n - 2 ^ top_of n) (omega arith))
       where
         go : (b : Bool) → Ran g (arrays.tree_fold d r fs (n - 2 ^ top_of n)) c₀ (Folded g (tree_fold d ts (n - 2 ^ top_of n)) (n - 2 ^ top_of n ≡ n₀))
             → Ran g (elim b [ true ↦ pure (get_or fs (top_of n) 0) | false ↦ bind (arrays.tree_fold d r fs (n - 2 ^ top_of n)) (λ left. arrays.f_array_fold r left (get_or fs (top_of n) 0)) ]) c₀
             (Folded g (elim b [ true ↦ get_or ts (top_of n) fail | false ↦ fold_both (tree_fold d ts (n - 2 ^ top_of n)) (get_or ts (top_of n) fail) ]) (n ≡ n₀))
-        go true h = ran-top n l
+        go true h = ran_top n l
         go false h =
             let o = top_mono n n₀ l in
             ran_bind h (λ _ _ p left.
@@ -162,7 +162,7 @@ module _ {g : Given} (r : ℕ) where
   unfolding arrays.array_fold fold_array
   ran_array_fold n e h =
       ran_bind (ran_powers (top_of n) e h) (λ _ _ o folds.
-      ran_less (ran-tree folds n n (omega arith)) (λ a d root. record { last = root.last refl; is = root.is }))
+      ran_less (ran_tree folds n n (omega arith)) (λ a d root. record { last = root.last refl; is = root.is }))
 
   -- the loop
   ran_turn : (b : Bool) {f c : ℕ} {t : Term} → f < c → Is g f t → Ran g (loops.turn r b f) c (At g (turn b t))

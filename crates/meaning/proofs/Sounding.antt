@@ -88,9 +88,9 @@ module _ (C : ℕ → Value → Type 0) (W : Ty → ℕ → ℕ → Type 0) (M :
 
   -- a statement, where what follows it is sound
   module _ {b i : List ℕ} {s : ℕ} (st : Stands b i s STATEMENT) (ih : Expressions b i s) (rest : Stmts) (d : SoundRun C W M rest) where
-    stmt-sound : SoundRun C W M (as_stmt (tree b i s) rest)
+    stmt_sound : SoundRun C W M (as_stmt (tree b i s) rest)
     unfolding as_stmt Sound
-    stmt-sound = every (SA ∷ SE ∷ []) (λ m. mark b i s ≡ m → SoundRun C W M (as_stmt (tree b i s) rest))
+    stmt_sound = every (SA ∷ SE ∷ []) (λ m. mark b i s ≡ m → SoundRun C W M (as_stmt (tree b i s) rest))
         ((λ is. rw (stands_tree st SA is) (in_head_lem _ EXPRESSION tt st ih SA is 1 tt refl, d))
         also (λ is. rw (stands_tree st SE is) (in_head_lem _ EXPRESSION tt st ih SE is 0 tt refl, d))
         also tt)
@@ -141,7 +141,7 @@ module _ (C : ℕ → Value → Type 0) (W : Ty → ℕ → ℕ → Type 0) (M :
 
     run_row : mark b i r ≡ EB → SoundRun C W M (stmts_at x a 2 (x 1))
     run_row is = group_all (SoundRun C W M) 1 _ _ 2 (x 1) (run_end is (2 + x 1) refl)
-        (λ k q z l ss. stmt-sound (each_stands s EB is k q 0 (omega arith) l tt tt) (λ y h. ih y (omega (arith, each_below s EB is k q 0 (omega arith) l tt tt))) ss)
+        (λ k q z l ss. stmt_sound (each_stands s EB is k q 0 (omega arith) l tt tt) (λ y h. ih y (omega (arith, each_below s EB is k q 0 (omega arith) l tt tt))) ss)
 
     -- whatever its mark
     expr_step : Sound C W M (expr_of b i r)
@@ -176,27 +176,27 @@ module _ (C : ℕ → Value → Type 0) (W : Ty → ℕ → ℕ → Type 0) (M :
 
   module _ {b i : List ℕ} {n : ℕ} (g : Grounds b i n) where
     -- an expression's record is sound, if the functions before it are
-    sound-expr : {r : ℕ} → r < n → Stands b i r EXPRESSION → Functions b i r → Sound C W M (expr_of b i r)
-    sound-expr {r} o s = each_before (λ x. Functions b i x → Sound C W M (expr_of b i x)) EXPRESSION (suc r)
+    sound_expr : {r : ℕ} → r < n → Stands b i r EXPRESSION → Functions b i r → Sound C W M (expr_of b i r)
+    sound_expr {r} o s = each_before (λ x. Functions b i x → Sound C W M (expr_of b i x)) EXPRESSION (suc r)
         (λ x l k h fs. expr_step g (omega arith) k (λ y q u. h y q u (λ f z. fs f (omega arith))) fs)
         r (omega arith) s
 
     -- a function's record, if those before it are
-    sound-fun : {f : ℕ} → f < n → Stands b i f FUNCTION → Functions b i f → SoundFun C W M (fun_of b i f)
+    sound_fun : {f : ℕ} → f < n → Stands b i f FUNCTION → Functions b i f → SoundFun C W M (fun_of b i f)
     unfolding as_fun Sound
-    sound-fun {f} o s fs =
+    sound_fun {f} o s fs =
         let is = function_mark s in
         let k = 2 + 2 * field b i f 1 in
         let z : k ≡ (layout FN).heads + counted FN (field b i f) * (layout FN).eachs = omega arith in
         let earlier : field b i f k < f = last_below s FN is k z tt tt in
-        rw (stands_tree s FN is) (sound-expr (omega arith) (last_stands s FN is k z tt tt) (λ h l. fs h (omega arith)))
+        rw (stands_tree s FN is) (sound_expr (omega arith) (last_stands s FN is k z tt tt) (λ h l. fs h (omega arith)))
 
     -- so every function is, and every expression
-    sound-funs : Functions b i n
-    sound-funs = each_before (λ f. SoundFun C W M (fun_of b i f)) FUNCTION n (λ f o s fs. sound-fun o s fs)
+    sound_funs : Functions b i n
+    sound_funs = each_before (λ f. SoundFun C W M (fun_of b i f)) FUNCTION n (λ f o s fs. sound_fun o s fs)
 
-    sound-all : Expressions b i n
-    sound-all r o s = sound-expr o s (λ f l. sound-funs f (omega arith))
+    sound_all : Expressions b i n
+    sound_all r o s = sound_expr o s (λ f l. sound_funs f (omega arith))
 
 -- a witness that is given is of the type, where the type's test passes beside those of its entry
 given_has : (p q e f : Bool) {v : Value} {a : Ty} → T (both p (both q e)) → f ≡ true → Of v a → Has (pick (both p (both q f)) (value v) missing) a
@@ -243,4 +243,4 @@ pub sound_root : (b : List ℕ) (n : ℕ) (ws : List ℕ) (M : Type 0) → Typed
 sound_root b n ws M t given-all hashed =
     let v = answer_valid b n t.reads in
     let o : n - 1 < n = omega (arith, v.some) in
-    sound-all _ _ M (typed_grounds b n ws t M given-all hashed) (n - 1) o (read_stands t.reads (n - 1) o v.root)
+    sound_all _ _ M (typed_grounds b n ws t M given-all hashed) (n - 1) o (read_stands t.reads (n - 1) o v.root)

@@ -74,13 +74,13 @@ module _ {C : ℕ → Value → Type 0} {W : Ty → ℕ → ℕ → Type 0} (M :
     stored (in_left r t e) sc c h = ran_bind (stored e sc c h) (λ a d l i. ran_injl r (omega (arith, i.last)) i.is)
     stored (in_right r t e) sc c h = ran_bind (stored e sc c h) (λ a d l i. ran_injr r (omega (arith, i.last)) i.is)
     stored (variant r t k n es) sc c h = ran_bind (ran_bind (stored_row es sc c h.1) (λ xs d l i. ran_row r i)) (λ a d l i. ran_inject r (path n k) i.last i.is)
-    stored (block r t ss) sc c h = stored-run r ss sc c h
+    stored (block r t ss) sc c h = stored_run r ss sc c h
     stored (match r t e p l q k) sc c h =
         ran_bind (ran_binding r (length sc) (stored l (p ∷ sc) c h.1)) (λ a d o i.
         ran_bind (ran_binding r (length sc) (stored k (q ∷ sc) d h.2)) (λ b f m j.
         ran_bind (stored e sc f h.0) (λ s z n u. ran_matched r (omega (arith, u.last)) u.is (omega (arith, i.last)) i.is (omega (arith, j.last)) j.is)))
     stored (match_enum r t e cs) sc c h =
-        ran_bind (stored-arms r cs sc c h.2) (λ xs d l i.
+        ran_bind (stored_arms r cs sc c h.2) (λ xs d l i.
         ran_bind (ran_cases r i) (λ k f m j.
         ran_bind (stored e sc f h.1) (λ s z n u. ran_chosen r (omega (arith, u.last)) u.is (omega (arith, j.last)) j.is)))
     stored (jet r t s j es) sc c h = ran_called y r s (ran_bind (stored_row es sc c h.1) (λ xs d l i. ran_row r i)) (λ d. ran_jet r j d (omega (arith, h.0)))
@@ -98,7 +98,7 @@ module _ {C : ℕ → Value → Type 0} {W : Ty → ℕ → ℕ → Type 0} (M :
         ran_called y r 0 (ran_two r (stored e sc c h.2) (λ d. stored a sc d h.3)) (λ d. ran_bind (stored_fun f d h.1) (λ b k o i. ran_array_fold r n i.last i.is))
     stored (for_while r t f w a x) sc c h =
         ran_called y r 0 (ran_two r (stored a sc c h.2) (λ d. stored x sc d h.3)) (λ d. ran_bind (stored_fun f d h.1) (λ b k o i. ran_for_while r (top_of w) i.last i.is))
-    stored (hash r t s ps) sc c h = ran_called y r s (ran_bind (stored-words ps sc c h.1) (λ xs d l i. ran_row r i)) (λ d. ran_raw_hash r (widths ps) d)
+    stored (hash r t s ps) sc c h = ran_called y r s (ran_bind (stored_words ps sc c h.1) (λ xs d l i. ran_row r i)) (λ d. ran_raw_hash r (widths ps) d)
     stored no_expr sc c h = absurd h
 
     -- the elements of a row, the words of a hash, the arms of an enum's match: their nodes one after another
@@ -106,24 +106,24 @@ module _ {C : ℕ → Value → Type 0} {W : Ty → ℕ → ℕ → Type 0} (M :
     stored_row no_exprs sc c h = ran_pure [] rows_none
     stored_row (more_exprs e es) sc c h = ran_more (stored e sc c h.0) (λ d. stored_row es sc d h.1)
 
-    stored-words : (ps : Parts) (sc : List Pat) (c : ℕ) → SoundParts C W M ps → Ran g (words y ps sc) c (λ xs d. Rows g (compile_words y ps sc) xs c d)
-    stored-words no_parts sc c h = ran_pure [] rows_none
-    stored-words (more_parts w e ps) sc c h = ran_more (stored e sc c h.0) (λ d. stored-words ps sc d h.1)
+    stored_words : (ps : Parts) (sc : List Pat) (c : ℕ) → SoundParts C W M ps → Ran g (words y ps sc) c (λ xs d. Rows g (compile_words y ps sc) xs c d)
+    stored_words no_parts sc c h = ran_pure [] rows_none
+    stored_words (more_parts w e ps) sc c h = ran_more (stored e sc c h.0) (λ d. stored_words ps sc d h.1)
 
-    stored-arms : (r : ℕ) (cs : Arms) (sc : List Pat) (c : ℕ) → SoundArms C W M cs → Ran g (arms y r cs sc) c (λ xs d. Rows g (compile_arms y cs sc) xs c d)
-    stored-arms r no_arms sc c h = ran_pure [] rows_none
-    stored-arms r (more_arms p e cs) sc c h = ran_more (ran_binding r (length sc) (stored e (p ∷ sc) c h.0)) (λ d. stored-arms r cs sc d h.1)
+    stored_arms : (r : ℕ) (cs : Arms) (sc : List Pat) (c : ℕ) → SoundArms C W M cs → Ran g (arms y r cs sc) c (λ xs d. Rows g (compile_arms y cs sc) xs c d)
+    stored_arms r no_arms sc c h = ran_pure [] rows_none
+    stored_arms r (more_arms p e cs) sc c h = ran_more (ran_binding r (length sc) (stored e (p ∷ sc) c h.0)) (λ d. stored_arms r cs sc d h.1)
 
     -- statements and their end
-    stored-run : (r : ℕ) (ss : Stmts) (sc : List Pat) (c : ℕ) → SoundRun C W M ss → Ran g (statements y r ss sc) c (At g (compile_run y ss sc))
-    stored-run r (assign s p e rest) sc c h =
+    stored_run : (r : ℕ) (ss : Stmts) (sc : List Pat) (c : ℕ) → SoundRun C W M ss → Ran g (statements y r ss sc) c (At g (compile_run y ss sc))
+    stored_run r (assign s p e rest) sc c h =
         ran_bind (stored e sc c h.0) (λ a d l i. ran_binding s (length sc)
         (ran_bind (ran_paired s (omega (arith, i.last)) i.is) (λ b f m j.
-        ran_bind (stored-run r rest (p ∷ sc) f h.1) (λ k z n u. ran_comp s (omega (arith, j.last)) j.is (omega (arith, u.last)) u.is))))
-    stored-run r (does s e rest) sc c h =
-        ran_bind (stored e sc c h.0) (λ a d l i. ran_bind (stored-run r rest sc d h.1) (λ b f m j. ran_followed s (omega (arith, i.last)) i.is (omega (arith, j.last)) j.is))
-    stored-run r (end e) sc c h = stored e sc c h
-    stored-run r no_end sc c h = ran_unit r c
+        ran_bind (stored_run r rest (p ∷ sc) f h.1) (λ k z n u. ran_comp s (omega (arith, j.last)) j.is (omega (arith, u.last)) u.is))))
+    stored_run r (does s e rest) sc c h =
+        ran_bind (stored e sc c h.0) (λ a d l i. ran_bind (stored_run r rest sc d h.1) (λ b f m j. ran_followed s (omega (arith, i.last)) i.is (omega (arith, j.last)) j.is))
+    stored_run r (end e) sc c h = stored e sc c h
+    stored_run r no_end sc c h = ran_unit r c
 
     -- a function's body
     pub stored_fun : (f : Fun) (c : ℕ) → SoundFun C W M f → Ran g (body y f) c (At g (compile_fun y f))

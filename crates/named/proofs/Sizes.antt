@@ -36,24 +36,24 @@ module _ {r : ℕ} where
   stores_emit k a b = record { whole = λ c. (refl, tt); count = λ c. refl }
 
   module _ {A B : Type 0} {n : ℕ} (k : A → Run B) (rest : (a : A) → Stores r n (k a)) where
-    whole-then : (τ : Trace A) (c : ℕ) → Whole r τ → Whole r (graft τ k c)
+    whole_then : (τ : Trace A) (c : ℕ) → Whole r τ → Whole r (graft τ k c)
     unfolding graft
-    whole-then (done a) c w = (rest a).whole c
-    whole-then (stopped s q) c w = absurd w
-    whole-then (store x τ) c w = (w.0, whole-then τ (suc c) w.1)
+    whole_then (done a) c w = (rest a).whole c
+    whole_then (stopped s q) c w = absurd w
+    whole_then (store x τ) c w = (w.0, whole_then τ (suc c) w.1)
 
-    size-then : (τ : Trace A) (c : ℕ) → Whole r τ → size (graft τ k c) ≡ size τ + n
+    size_then : (τ : Trace A) (c : ℕ) → Whole r τ → size (graft τ k c) ≡ size τ + n
     unfolding graft size
-    size-then (done a) c w = rw zero-add ((rest a).count c)
-    size-then (stopped s q) c w = absurd w
-    size-then (store x τ) c w = rw suc-add (ap suc (size-then τ (suc c) w.1))
+    size_then (done a) c w = rw zero-add ((rest a).count c)
+    size_then (stopped s q) c w = absurd w
+    size_then (store x τ) c w = rw suc-add (ap suc (size_then τ (suc c) w.1))
 
   -- one run after another
   pub stores_then : {A B : Type 0} {j n : ℕ} {m : Run A} {k : A → Run B} → Stores r j m → ((a : A) → Stores r n (k a)) → Stores r (j + n) (bind m k)
   unfolding bind
   stores_then {n = n} {m = m} {k = k} d e = record {
-    whole = λ c. whole-then k e (m c) c (d.whole c);
-    count = λ c. size-then k e (m c) c (d.whole c) ∙ ap (λ (i : ℕ). i + n) (d.count c);
+    whole = λ c. whole_then k e (m c) c (d.whole c);
+    count = λ c. size_then k e (m c) c (d.whole c) ∙ ap (λ (i : ℕ). i + n) (d.count c);
   }
 
   pub stores_bit : (b : Bool) → Stores r 2 (bit r b)

@@ -38,8 +38,8 @@ module _ {b i : List ℕ} {r : ℕ} (m : ℕ) (is : mark b i r ≡ m) where
       let u = both_left (both (eqb f ((layout m).heads + e)) (eqb s (layout m).eachs)) _ t in
       let v = both_right (both (eqb f ((layout m).heads + e)) (eqb s (layout m).eachs)) _ t in
       let from_is : f ≡ (layout m).heads + e = eqb→eq _ _ (both_left (eqb f ((layout m).heads + e)) _ u) in
-      let stride-is : s ≡ (layout m).eachs = eqb→eq _ _ (both_right (eqb f ((layout m).heads + e)) _ u) in
-      let z : f + s * k ≡ (layout m).heads + k * (layout m).eachs + e = rw (stride-is, mul_comm (layout m).eachs k) (omega arith) in
+      let stride_is : s ≡ (layout m).eachs = eqb→eq _ _ (both_right (eqb f ((layout m).heads + e)) _ u) in
+      let z : f + s * k ≡ (layout m).heads + k * (layout m).eachs + e = rw (stride_is, mul_comm (layout m).eachs k) (omega arith) in
       subst (Field b i r (f + s * k)) (eqb→eq _ _ (both_right (ltb e (layout m).eachs) _ v)) (each_field b i r m is (f + s * k) k e z h (both_left (ltb e (layout m).eachs) _ v))
 
 -- the places of mark m's row

@@ -52,16 +52,16 @@ module _ {w : Option (List Side)} {b i : List ℕ} {bs : List ℕ} {n x at : ℕ
 
   -- the next binding to search
   module _ (u : ℕ) (o : 0 < at) (e : u ≡ at - 1) where
-    misses-here : w ≡ through (n - at) u (find x (bound b i (get_or bs u 0))) (lookup_from (suc (n - at)) x (newest b i bs u))
+    misses_here : w ≡ through (n - at) u (find x (bound b i (get_or bs u 0))) (lookup_from (suc (n - at)) x (newest b i bs u))
     unfolding newest lookup_from
-    misses-here = let z : at ≡ suc u = omega arith in m.rest ∙ ap (λ k. lookup_from (n - at) x (newest b i bs k)) z ∙ rw (newest_length b i bs u)
+    misses_here = let z : at ≡ suc u = omega arith in m.rest ∙ ap (λ k. lookup_from (n - at) x (newest b i bs k)) z ∙ rw (newest_length b i bs u)
 
     pub misses_next : {t₂ : List ℕ} → Absent (find x (bound b i (get_or bs u 0))) t₁ t₂ → Misses w b i bs n x u t t₂
     unfolding through
     misses_next f = record {
       low = omega (arith, m.low);
       table = f.table ∙ m.table;
-      rest = let z : suc (n - at) ≡ n - u = omega (arith, m.low) in misses-here ∙ rw (f.is, z);
+      rest = let z : suc (n - at) ≡ n - u = omega (arith, m.low) in misses_here ∙ rw (f.is, z);
     }
 
     pub misses_found : {r : ℕ} {t₂ t₃ : List ℕ} {pen q v : Pen} (newer : ℕ) → newer ≡ n - 1 - u → Found r t₁ pen (find x (bound b i (get_or bs u 0))) q t₂ → Draws r t₂ q (wraps r (kinds TAKE DROP (reach newer u)) q.root) v t₃ → Found r t pen w v t₃
@@ -69,7 +69,7 @@ module _ {w : Option (List Side)} {b i : List ℕ} {bs : List ℕ} {n x at : ℕ
     misses_found {r = r} {t₂ = t₂} {pen = pen} {q = q} newer y f d =
         let z : n - at ≡ newer = omega (arith, m.low) in
         let g : Found r t pen (find x (bound b i (get_or bs u 0))) q t₂ = rw m.table at f in
-        found_on (reach newer u) g (misses-here ∙ rw (g.is, z)) d
+        found_on (reach newer u) g (misses_here ∙ rw (g.is, z)) d
 
 -- drops, one after another
 module _ {r : ℕ} {t : List ℕ} {p : Pen} where

@@ -220,17 +220,17 @@ module _ {b i : List ℕ} {r t : ℕ} (g : Declares b i r EB t) where
 
   -- e is its end
   module _ {n e : ℕ} (z : n ≡ field b i r 1) (o : e ≡ field b i r (2 + n)) where
-    is-end : e ≡ field b i r (2 + field b i r 1)
-    is-end = o ∙ rw z
+    is_end : e ≡ field b i r (2 + field b i r 1)
+    is_end = o ∙ rw z
 
     -- there is none; there is one, of type p
     pub block_none : e ≡ 65535 → Tests (whole (expr_of b i r)) (same (type_of b i t) one ∷ [])
     unfolding end_type
-    block_none q = record { is = block_end ∙ rw (eq-eqb _ 65535 (sym is-end ∙ q)) (same_turned one (type_of b i t)) }
+    block_none q = record { is = block_end ∙ rw (eq-eqb _ 65535 (sym is_end ∙ q)) (same_turned one (type_of b i t)) }
 
     pub end_is : (e ≡ 65535 → ⊥) → Stands b i e EXPRESSION
-    end_is q = rw is-end (tail_stands g.marked.stands EB g.marked.is (2 + field b i r 1) (omega arith) tt refl (λ w. q (is-end ∙ w)))
+    end_is q = rw is_end (tail_stands g.marked.stands EB g.marked.is (2 + field b i r 1) (omega arith) tt refl (λ w. q (is_end ∙ w)))
 
     pub block_is : {p : ℕ} → (e ≡ 65535 → ⊥) → Is b i p (type_is (expr_of b i e)) → Tests (whole (expr_of b i r)) (same (type_of b i p) (type_of b i t) ∷ [])
     unfolding end_type
-    block_is q w = record { is = block_end ∙ rw (ne_eqb _ 65535 (λ v. q (is-end ∙ v)), ← is-end, w.1) }
+    block_is q w = record { is = block_end ∙ rw (ne_eqb _ 65535 (λ v. q (is_end ∙ v)), ← is_end, w.1) }

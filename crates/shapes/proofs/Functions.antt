@@ -96,16 +96,16 @@ module _ {b i : List ℕ} {r t : ℕ} where
     pub call_function : Stands b i f FUNCTION
     call_function = rw z (names g 1 tt tt)
 
-    call-whole : whole (expr_of b i r) ≡ both (same_all (types_at b i r 1 3 (field b i r 2)) (takes_at b i f 2 (field b i f 1))) (same (type_of b i t) (type_of b i (field b i f 0)))
+    call_whole : whole (expr_of b i r) ≡ both (same_all (types_at b i r 1 3 (field b i r 2)) (takes_at b i f 2 (field b i f 1))) (same (type_of b i t) (type_of b i (field b i f 0)))
     unfolding whole as_expr
-    call-whole = ap whole (made g) ∙ rw (types_at_lem b i r (field b i r 2) 3, ← z, takes_are call_function, gives_is call_function, ← g.is)
+    call_whole = ap whole (made g) ∙ rw (types_at_lem b i r (field b i r 2) 3, ← z, takes_are call_function, gives_is call_function, ← g.is)
 
     module _ {n c : ℕ} (o : n ≡ field b i r 2) (w : c ≡ field b i f 1) where
       pub call_few : (c ≡ n → ⊥) → false ≡ whole (expr_of b i r)
-      call_few h = sym (call-whole ∙ rw (same_length _ _ (λ e. h (w ∙ sym (takes_length b i f (field b i f 1) 2) ∙ sym e ∙ types_length b i r (field b i r 2) 1 3 ∙ sym o))))
+      call_few h = sym (call_whole ∙ rw (same_length _ _ (λ e. h (w ∙ sym (takes_length b i f (field b i f 1) 2) ∙ sym e ∙ types_length b i r (field b i r 2) 1 3 ∙ sym o))))
 
       pub call_is : c ≡ n → Tests (whole (expr_of b i r)) (same_all (types_at b i r 1 3 n) (takes_at b i f 2 n) ∷ same (type_of b i t) (type_of b i (field b i f 0)) ∷ [])
-      call_is e = record { is = call-whole ∙ rw (← w, e, ← o) }
+      call_is e = record { is = call_whole ∙ rw (← w, e, ← o) }
 
   -- a hash of n words, each of which lies, is of a power of two's width, and is an expression
   pub hash_is : {n : ℕ} → Declares b i r CH t → n ≡ field b i r 2 → Tests (whole (expr_of b i r)) (words_at b i r 3 n ∷ same (type_of b i t) (word_type 256) ∷ [])
@@ -261,16 +261,16 @@ module _ {b i : List ℕ} {r t j : ℕ} (g : Declares b i r CJ t) (z : j ≡ fie
     jet_result = rw e (usual j jet_number).result
 
     -- as many arguments, each of them the word, and what it gives
-    jet-whole : whole (expr_of b i r) ≡ both (same_all (types_at b i r 1 4 (field b i r 3)) (replicate q.arguments (word_type (q.input / q.arguments)))) (same (type_of b i t) (result_type q.output))
+    jet_whole : whole (expr_of b i r) ≡ both (same_all (types_at b i r 1 4 (field b i r 3)) (replicate q.arguments (word_type (q.input / q.arguments)))) (same (type_of b i t) (result_type q.output))
     unfolding whole as_expr
-    jet-whole = ap whole (made g) ∙ rw (← z, ← g.is, types_at_lem b i r (field b i r 3) 4, e, (usual j jet_number).takes, (usual j jet_number).gives)
+    jet_whole = ap whole (made g) ∙ rw (← z, ← g.is, types_at_lem b i r (field b i r 3) 4, e, (usual j jet_number).takes, (usual j jet_number).gives)
 
     pub jet_few : {n : ℕ} → n ≡ field b i r 3 → (n ≡ q.arguments → ⊥) → false ≡ whole (expr_of b i r)
-    jet_few o h = sym (jet-whole ∙ rw (same_length _ _ (λ w. h (o ∙ sym (types_length b i r (field b i r 3) 1 4) ∙ w ∙ length-replicate q.arguments _))))
+    jet_few o h = sym (jet_whole ∙ rw (same_length _ _ (λ w. h (o ∙ sym (types_length b i r (field b i r 3) 1 4) ∙ w ∙ length-replicate q.arguments _))))
 
     pub jet_is : {n : ℕ} {p : Span} → n ≡ field b i r 3 → n ≡ q.arguments → Spanned b i r CJ p → Tests (whole (expr_of b i r)) (all_are (word_type (q.input / q.arguments)) (types_at b i r p.stride p.from p.count) ∷ same (type_of b i t) (result_type q.output) ∷ [])
     unfolding span_at
-    jet_is o w s = record { is = jet-whole ∙ rw (s.is, same_replicate (word_type (q.input / q.arguments)) (types_at b i r 1 4 (field b i r 3)) q.arguments (types_length b i r (field b i r 3) 1 4 ∙ sym o ∙ w)) }
+    jet_is o w s = record { is = jet_whole ∙ rw (s.is, same_replicate (word_type (q.input / q.arguments)) (types_at b i r 1 4 (field b i r 3)) q.arguments (types_length b i r (field b i r 3) 1 4 ∙ sym o ∙ w)) }
 
 -- what a jet gives is unit, a bit, or a carry beside a word
 pub result_unit : {bits : ℕ} (t : Ty) → bits ≡ 0 → same t one ≡ same t (result_type bits)

@@ -84,17 +84,17 @@ module _ {b i : List ℕ} {o : Option Ty} {t n : ℕ} (g : Down b i halved_of o 
     halved_none f = nowhere refl (down_is g h ∙ rw (side_not g.stands e {m = TP} tt f on_left))
 
     module _ (q : x ≡ TP) {y z : ℕ} (l : y ≡ field b i t 0) (r : z ≡ field b i t 1) where
-      halved-sides : (k : ℕ) → halved_of (suc k) (type_of b i t) ≡ onward (same_half (some (type_of b i y)) (some (type_of b i z))) (halved_of k)
+      halved_sides : (k : ℕ) → halved_of (suc k) (type_of b i t) ≡ onward (same_half (some (type_of b i y)) (some (type_of b i z))) (halved_of k)
       unfolding halved_of
-      halved-sides k = rw (side_is_lem g.stands e {m = TP} tt q 0 (omega arith), side_is_lem g.stands e {m = TP} tt q 1 (omega arith), l, r)
+      halved_sides k = rw (side_is_lem g.stands e {m = TP} tt q 0 (omega arith), side_is_lem g.stands e {m = TP} tt q 1 (omega arith), l, r)
 
-      halved-tells : eqb y z ≡ same (type_of b i y) (type_of b i z)
-      halved-tells = types_same (side_at g.stands e {m = TP} tt q {k = 0} (omega arith) l) (side_at g.stands e {m = TP} tt q {k = 1} (omega arith) r)
+      halved_tells : eqb y z ≡ same (type_of b i y) (type_of b i z)
+      halved_tells = types_same (side_at g.stands e {m = TP} tt q {k = 0} (omega arith) l) (side_at g.stands e {m = TP} tt q {k = 1} (omega arith) r)
 
       pub halved_unlike : (z ≡ y → ⊥) → Gives b i o NONE
       unfolding onward
-      halved_unlike f = nowhere refl (down_is g h ∙ halved-sides (top_of (n / 2)) ∙ rw (halves_other (type_of b i y) (type_of b i z) (sym halved-tells ∙ ne_eqb y z (λ w. f (sym w)))))
+      halved_unlike f = nowhere refl (down_is g h ∙ halved_sides (top_of (n / 2)) ∙ rw (halves_other (type_of b i y) (type_of b i z) (sym halved_tells ∙ ne_eqb y z (λ w. f (sym w)))))
 
       pub halved_next : z ≡ y → Down b i halved_of o y (n / 2)
       unfolding onward
-      halved_next w = down_next g h (side_at g.stands e {m = TP} tt q {k = 0} (omega arith) l) (halved-sides (top_of (n / 2)) ∙ rw (w, halves_same (type_of b i y)))
+      halved_next w = down_next g h (side_at g.stands e {m = TP} tt q {k = 0} (omega arith) l) (halved_sides (top_of (n / 2)) ∙ rw (w, halves_same (type_of b i y)))

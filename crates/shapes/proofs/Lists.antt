@@ -63,12 +63,12 @@ module _ {b i : List ℕ} (a : Ty) {o : Bool} {t n : ℕ} (g : Down b i (is_list
     list_not f = sym (down_is g h ∙ same_not g.stands e (fewer a (suc (top_of (n / 2)))) refl f)
 
     module _ (q : x ≡ TP) {y w : ℕ} (l : y ≡ field b i t 0) (r : w ≡ field b i t 1) {u : Bool} (v : u ≡ same (type_of b i y) (block_type a (top_of n))) where
-      list-sides : same (type_of b i t) (fewer a (suc (top_of (n / 2)))) ≡ both (same (type_of b i y) (block_type a (top_of n))) (same (type_of b i w) (fewer a (top_of (n / 2))))
+      list_sides : same (type_of b i t) (fewer a (suc (top_of (n / 2)))) ≡ both (same (type_of b i y) (block_type a (top_of n))) (same (type_of b i w) (fewer a (top_of (n / 2))))
       unfolding fewer
-      list-sides = rw (half_top g.power h) (same_product g.stands e l r _ _ q)
+      list_sides = rw (half_top g.power h) (same_product g.stands e l r _ _ q)
 
       pub list_other : u ≡ false → false ≡ o
-      list_other z = sym (down_is g h ∙ first_fails _ v list-sides z)
+      list_other z = sym (down_is g h ∙ first_fails _ v list_sides z)
 
       pub list_next : u ≡ true → Down b i (is_lists a) o w (n / 2)
-      list_next z = down_next g h (side_at g.stands e {m = TP} tt q {k = 1} (omega arith) r) (first_holds _ v list-sides z)
+      list_next z = down_next g h (side_at g.stands e {m = TP} tt q {k = 1} (omega arith) r) (first_holds _ v list_sides z)

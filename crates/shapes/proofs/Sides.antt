@@ -105,21 +105,21 @@ module _ {b i : List ℕ} {t : ℕ} (s : Stands b i t TYPE) where
 
     -- its two fields, where it is a sum or a product, lie in the book and name types, which are its sides
     module _ {m : ℕ} (z : T (is_sort m)) (q : x ≡ m) where
-      at-sort : (P : ℕ → Type 0) → (mark b i t ≡ TS → P TS) → (mark b i t ≡ TP → P TP) → P m
-      at-sort P f g = by_sort (λ n. mark b i t ≡ n → P n) f g z (sym e ∙ q)
+      at_sort : (P : ℕ → Type 0) → (mark b i t ≡ TS → P TS) → (mark b i t ≡ TP → P TP) → P m
+      at_sort P f g = by_sort (λ n. mark b i t ≡ n → P n) f g z (sym e ∙ q)
 
       pub side_lies : (k : ℕ) → k < 2 → Lies b i t k
-      side_lies k h = at-sort (λ n. Lies b i t k) (λ o. head_lies s TS o k (lt→ltb k 2 h)) (λ o. head_lies s TP o k (lt→ltb k 2 h))
+      side_lies k h = at_sort (λ n. Lies b i t k) (λ o. head_lies s TS o k (lt→ltb k 2 h)) (λ o. head_lies s TP o k (lt→ltb k 2 h))
 
       pub side_stands : (k : ℕ) → k < 2 → Stands b i (field b i t k) TYPE
-      side_stands zero h = at-sort (λ n. Stands b i (field b i t 0) TYPE) (λ o. head_stands s TS o 0 tt tt) (λ o. head_stands s TP o 0 tt tt)
-      side_stands (suc zero) h = at-sort (λ n. Stands b i (field b i t 1) TYPE) (λ o. head_stands s TS o 1 tt tt) (λ o. head_stands s TP o 1 tt tt)
+      side_stands zero h = at_sort (λ n. Stands b i (field b i t 0) TYPE) (λ o. head_stands s TS o 0 tt tt) (λ o. head_stands s TP o 0 tt tt)
+      side_stands (suc zero) h = at_sort (λ n. Stands b i (field b i t 1) TYPE) (λ o. head_stands s TS o 1 tt tt) (λ o. head_stands s TP o 1 tt tt)
       side_stands (suc (suc k)) h = absurd (omega arith)
 
       pub side_is_lem : (k : ℕ) → k < 2 → side_is m k (type_of b i t) ≡ some (type_of b i (field b i t k))
       unfolding side_of
-      side_is_lem zero h = at-sort (λ n. side_is n 0 (type_of b i t) ≡ some (type_of b i (field b i t 0))) (λ o. rw (sum_tree o)) (λ o. rw (product_tree o))
-      side_is_lem (suc zero) h = at-sort (λ n. side_is n 1 (type_of b i t) ≡ some (type_of b i (field b i t 1))) (λ o. rw (sum_tree o)) (λ o. rw (product_tree o))
+      side_is_lem zero h = at_sort (λ n. side_is n 0 (type_of b i t) ≡ some (type_of b i (field b i t 0))) (λ o. rw (sum_tree o)) (λ o. rw (product_tree o))
+      side_is_lem (suc zero) h = at_sort (λ n. side_is n 1 (type_of b i t) ≡ some (type_of b i (field b i t 1))) (λ o. rw (sum_tree o)) (λ o. rw (product_tree o))
       side_is_lem (suc (suc k)) h = absurd (omega arith)
 
       pub side_at : {k y : ℕ} → k < 2 → y ≡ field b i t k → Stands b i y TYPE

@@ -96,18 +96,18 @@ module _ {b i : List ℕ} {r : ℕ} (g : Marked b i r EB) where
     stmt_part e = part_of g.stands (stmt_field g k h) tt e
 
   module _ (n : ℕ) (z : n ≡ field b i r 1) where
-    end-field : Field b i r (2 + n) END
-    end-field = last_field b i r EB g.is (2 + n) (rw z (omega arith)) tt
+    end_field : Field b i r (2 + n) END
+    end_field = last_field b i r EB g.is (2 + n) (rw z (omega arith)) tt
 
     pub end_lies : Lies b i r (2 + n)
-    end_lies = field_in g.stands end-field
+    end_lies = field_in g.stands end_field
 
     pub end_part : {x : ℕ} → x ≡ field b i r (2 + n) → (x ≡ 65535 → ⊥) → Part b i r x EXPRESSION
     end_part e some =
         let o : field b i r (2 + n) ≡ 65535 → ⊥ = λ q. some (e ∙ q) in
-        let l = end_below g.stands end-field refl o in
-        let y : named b i r (2 + n) ≡ EXPRESSION = rw end-field.is (names_end (field b i r (2 + n)) o) in
-        rw e (record { stands = end_stands g.stands end-field refl o; below = l; shallower = field_shallower end-field y (λ q. omega arith) l })
+        let l = end_below g.stands end_field refl o in
+        let y : named b i r (2 + n) ≡ EXPRESSION = rw end_field.is (names_end (field b i r (2 + n)) o) in
+        rw e (record { stands = end_stands g.stands end_field refl o; below = l; shallower = field_shallower end_field y (λ q. omega arith) l })
 
 -- what a statement names
 module _ {b i : List ℕ} {s : ℕ} (k : Stands b i s STATEMENT) where
@@ -204,11 +204,11 @@ module _ {b i : List ℕ} {f : ℕ} (k : Stands b i f FUNCTION) where
   gives_lies = head_lies k FN (function_mark k) 0 tt
 
   module _ (n : ℕ) (z : n ≡ field b i f 1) where
-    body-field : Field b i f (2 + 2 * n) EXPRESSION
-    body-field = last_field b i f FN (function_mark k) (2 + 2 * n) (rw z (omega arith)) tt
+    body_field : Field b i f (2 + 2 * n) EXPRESSION
+    body_field = last_field b i f FN (function_mark k) (2 + 2 * n) (rw z (omega arith)) tt
 
     pub body_lies : Lies b i f (2 + 2 * n)
-    body_lies = field_in k body-field
+    body_lies = field_in k body_field
 
     pub body_part : {x : ℕ} → x ≡ field b i f (2 + 2 * n) → Part b i f x EXPRESSION
-    body_part e = part_of k body-field tt e
+    body_part e = part_of k body_field tt e

@@ -212,16 +212,16 @@ module _ (b : List ℕ) {x : ReadAnswer} (p : x ≡ read_of b) where
     book_tiles = rw q (answer_tiles b n (sym p ∙ e))
 
     module _ {c : Checked} (d : c ≡ checking b i n) where
-      answer-is : check_of b ≡ answer_of n c
-      answer-is = by_read b n (sym p ∙ e) ∙ rw (d, q)
+      answer_is : check_of b ≡ answer_of n c
+      answer_is = by_read b n (sym p ∙ e) ∙ rw (d, q)
 
       pub check_passed : c ≡ Passed → answers.Records n ≡ check_of b
       unfolding answer_of
-      check_passed f = sym (answer-is ∙ rw f)
+      check_passed f = sym (answer_is ∙ rw f)
 
       pub check_refused : {w : Refusal} → c ≡ Refused w → answers.Refused w ≡ check_of b
       unfolding answer_of
-      check_refused f = sym (answer-is ∙ rw f)
+      check_refused f = sym (answer_is ∙ rw f)
 
   pub read_refused : {w : Refusal} → x ≡ reads.Refused w → answers.Refused w ≡ check_of b
   read_refused {w} e = sym (by_refusal b w (sym p ∙ e))

@@ -62,11 +62,11 @@ fits_row-fits-requires t c =
 
 pub fits_row-returns-then-not-fits : goal.fits_row-returns-then-not-fits
 fits_row-returns-then-not-fits t c =
-    fitting_not c.loop-k.invariant c.loop-k-test.true c.place-s.ensures c.if-s.false (rw c.field_at-part.ensures at c.fits2.ensures) c.if-not-fits.true
+    fitting_not c.loop-k.invariant c.loop-k-test.true c.place-s.ensures c.if-s.false (rw c.field_at-part.ensures at c.fits.ensures) c.if-not-fits.true
 
 pub fits_row-loop-k-preserved : goal.fits_row-loop-k-preserved
 fits_row-loop-k-preserved t c =
-    fitting_next c.loop-k.invariant c.loop-k-test.true c.place-s.ensures c.if-s.false (rw c.field_at-part.ensures at c.fits2.ensures) c.if-not-fits.false (omega arith) (search rules)
+    fitting_next c.loop-k.invariant c.loop-k-test.true c.place-s.ensures c.if-s.false (rw c.field_at-part.ensures at c.fits.ensures) c.if-not-fits.false (omega arith) (search rules)
 
 pub fits_row-returns : goal.fits_row-returns
 fits_row-returns t c = fitting_all c.loop-k.invariant (omega arith)

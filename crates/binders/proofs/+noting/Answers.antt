@@ -15,6 +15,7 @@ use Rattle.binders.specs.Memos.{Nameless}
 use Rattle.binders.proofs.Names.{names_row_lem, names_one, names_none}
 use Rattle.binders.proofs.Tallies.{nameless_more, nameless_fits, notes_none, Meets, meets_none, meets_named, meets_nameless, meets_twice, meets_more, meets_same}
 use Rattle.binders.proofs.+noting.Goals as goal
+use Rattle.binders.proofs.+noting.Goals.{note_row-in-Named, note_row-in-Unnamed}
 
 pub note_all-bounds-nameless-p : goal.note_all-bounds-nameless-p
 note_all-bounds-nameless-p t c = search nameless_fits
@@ -58,7 +59,7 @@ note_row-returns-in-Twice t c =
 
 pub note_row-loop-k-preserved : goal.note_row-loop-k-preserved
 note_row-loop-k-preserved t c =
-    (c.note_all.ensures.nameless, let one = rw c.field_at-part.ensures at c.note_all.ensures.notes in ⊎_elim (λ w. meets_more c.loop-k.invariant.1 _ (omega arith) (omega arith) one _ (omega arith) w.1.given.1 w.2) (λ w. meets_same c.loop-k.invariant.1 _ (omega arith) (omega arith) one _ (omega arith) w.1.given.1 w.2) c.match-note_all.branch)
+    (c.note_all.ensures.nameless, let one = rw c.field_at-part.ensures at c.note_all.ensures.notes in elim c.match-note_all.branch [ note_row-in-Named w ↦ meets_more c.loop-k.invariant.1 _ (omega arith) (omega arith) one _ (omega arith) w.in-Named.is w.any-is | note_row-in-Unnamed w ↦ meets_same c.loop-k.invariant.1 _ (omega arith) (omega arith) one _ (omega arith) w.in-Unnamed.is w.any-is ])
 
 pub note_row-shape_of-met-then-any : goal.note_row-shape_of-met-then-any
 note_row-shape_of-met-then-any t c = c.loop-k.invariant.1.row.size ∙ sym c.requires.1.1.0.size

@@ -12,8 +12,7 @@ mark_at-m-requires c = stands_begins c.requires.stands
 
 pub repeats-requires : goal.repeats-requires
 repeats-requires c =
-    let both = c.requires.?REQ1 in
-    record { stands = row_stands c.requires.stands c.mark_at-m.ensures c.if-m-eq-PT.true; mark_is = sym c.mark_at-m.ensures ∙ c.if-m-eq-PT.true; met = both.0; nameless = both.1.0; doubled = both.1.1 }
+    record { stands = row_stands c.requires.stands c.mark_at-m.ensures c.if-m-eq-PT.true; mark_is = sym c.mark_at-m.ensures ∙ c.if-m-eq-PT.true; met = c.requires.met; nameless = c.requires.nameless; doubled = c.requires.doubled }
 
 pub returns-then-m-eq-PT : goal.returns-then-m-eq-PT
 returns-then-m-eq-PT c = c.repeats.ensures

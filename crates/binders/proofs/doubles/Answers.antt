@@ -9,6 +9,7 @@ use Rattle.pattern.proofs.Memos.{zero_size}
 use Rattle.binders.proofs.Doubling.{stands_self, Doubling, doubling_none, doubling_all, doubling_once, doubling_twice}
 use Rattle.binders.proofs.Tallies.{met_none, nameless_none}
 use Rattle.binders.proofs.doubles.Goals as goal
+use Rattle.binders.proofs.doubles.Goals.{then-doubled_at, else-doubled_at}
 
 pub loop-r-init : goal.loop-r-init
 loop-r-init c = doubling_none _ _ c.requires.doubled_is (met_none _ refl) (nameless_none _ _ _ refl)
@@ -28,7 +29,7 @@ bounds-doubled-r c = omega (arith, c.loop-r.invariant.doubled.size)
 
 pub loop-r-preserved : goal.loop-r-preserved
 loop-r-preserved c =
-    ⊎_elim (λ w. rw w.1 (doubling_twice c.loop-r.invariant _ refl c.loop-r-test.true c.doubled_at.ensures (omega (arith, c.loop-r.invariant.doubled.size)) w.0.taken)) (λ w. rw w.1 (doubling_once c.loop-r.invariant _ refl c.loop-r-test.true c.doubled_at.ensures w.0.left)) c.if-doubled_at.branch
+    elim c.if-doubled_at.branch [ then-doubled_at w ↦ rw w.doubled-is (doubling_twice c.loop-r.invariant _ refl c.loop-r-test.true c.doubled_at.ensures (omega (arith, c.loop-r.invariant.doubled.size)) w.if-doubled_at.true) | else-doubled_at w ↦ rw w.doubled-is (doubling_once c.loop-r.invariant _ refl c.loop-r-test.true c.doubled_at.ensures w.if-doubled_at.false) ]
 
 pub shape_of-doubled : goal.shape_of-doubled
 shape_of-doubled c = c.loop-r.invariant.doubled.size ∙ sym (zero_size 4096 c.requires.doubled_is)

@@ -16,6 +16,7 @@ use Rattle.binders.specs.Binders.{param_names}
 use Rattle.binders.proofs.Names.{names_params}
 use Rattle.binders.proofs.Tallies.{met_next, met_fresh, notes_twice, notes_new_all, Meets, meets_none, meets_named, meets_twice, meets_more, meets_same}
 use Rattle.binders.proofs.params_repeat.Goals as goal
+use Rattle.binders.proofs.params_repeat.Goals.{in-Named, in-Unnamed}
 
 pub field_at-n-requires : goal.field_at-n-requires
 field_at-n-requires c = search params_count
@@ -41,7 +42,7 @@ returns-in-Twice c =
 
 pub loop-k-preserved : goal.loop-k-preserved
 loop-k-preserved c =
-    let one = rw c.field_at-name.ensures at c.note.ensures in ⊎_elim (λ w. meets_more c.loop-k.invariant _ (omega arith) (omega arith) one _ (omega arith) w.1.given.1 refl) (λ w. meets_same c.loop-k.invariant _ (omega arith) (omega arith) one _ (omega arith) w.1.given.1 refl) c.match-note.branch
+    let one = rw c.field_at-name.ensures at c.note.ensures in elim c.match-note.branch [ in-Named w ↦ meets_more c.loop-k.invariant _ (omega arith) (omega arith) one _ (omega arith) w.in-Named.is refl | in-Unnamed w ↦ meets_same c.loop-k.invariant _ (omega arith) (omega arith) one _ (omega arith) w.in-Unnamed.is refl ]
 
 pub shape_of-met : goal.shape_of-met
 shape_of-met c = c.loop-k.invariant.row.size ∙ sym c.requires.met.size
