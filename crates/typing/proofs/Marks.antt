@@ -12,7 +12,7 @@ use Rattle.laws.specs.Table.{pick, among, every, ◌also◌}
 use Rattle.book.specs.Format.{STATEMENT, EC, EW, EV, ET, EL, E0, E1, EN, EB, SA, SE, EM, EH, CJ, CL, CR, CD, CA, CP, CN, CK, CF, CQ, CY, CW, CH}
 use Rattle.book.specs.Index.{mark, field}
 use Rattle.book.specs.Stands.{Stands}
-use Rattle.book.specs.Tree.{Tree, Stmts, tree, expr_of, type_of, as_expr, as_stmt, group, exprs_at, arms_at, parts_at, maker}
+use Rattle.book.specs.Tree.{Tree, Stmts, tree, expr_of, type_of, as_expr, as_stmt, group, exprs_at, arms_at, parts_at, maker, last_at}
 use Rattle.book.proofs.Standing.{stands_tree, stands_mark}
 use Rattle.simplicity.specs.Types.{Ty}
 use Rattle.parts.specs.Parts.{Marked, span_at}
@@ -220,10 +220,15 @@ module _ (b i : List ℕ) (s : ℕ) (sc : List Binding) where
       go false e = does_is k (eqb→eq (mark b i s) SE (rw e at (stands_mark k (λ j. pick (eqb j SA) true (eqb j SE)) tt tt))) rest
 
 module _ (b i : List ℕ) (r : ℕ) (sc : List Binding) where
+  stmts_first : (j n l : ℕ) → n ≡ suc l → stmts_of b i r j n ≡ as_stmt (tree b i (field b i r j)) (stmts_of b i r (j + 1) l)
+  unfolding stmts_of group
+  stmts_first j n l e =
+      let z : j + suc l ≡ j + 1 + l = omega arith in
+      rw e (ap (λ q. as_stmt (tree b i (field b i r j)) (group 1 (last_at (field b i r) (λ k. tree b i (field b i r k)) q) (λ k. as_stmt (tree b i (field b i r k))) (j + 1) l)) z)
+
   -- the statements of a block from field j on: the first, and the rest
   pub stmts_next : (j n l : ℕ) → n ≡ suc l → Stands b i (field b i r j) STATEMENT → statements (stmts_of b i r j n) sc ≡ and_then (statement_of b i (field b i r j) sc) (statements (stmts_of b i r (j + 1) l) (entered_of b i (field b i r j) sc))
-  unfolding stmts_of group
-  stmts_next j n l e k = let z : j + suc l ≡ j + 1 + l = omega arith in rw (e, z) (stmt_is b i (field b i r j) sc k (stmts_of b i r (j + 1) l))
+  stmts_next j n l e k = rw (stmts_first j n l e) (stmt_is b i (field b i r j) sc k (stmts_of b i r (j + 1) l))
 
   -- the end of a block
   pub end_none : (k : ℕ) → field b i r k ≡ 65535 → statements (stmts_of b i r k 0) sc ≡ Passed

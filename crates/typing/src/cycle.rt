@@ -103,7 +103,7 @@ fn bind(
 }
 
 // An expression, where so many bindings are live: its parts, and then the whole. A variable has no parts.
-#[cycle(arm_arms_block_does_expression_matching_parts_row_stmt)]
+#[cycle(checking)]
 pub fn expression(
     book: &[u8],
     index: &[u16],
@@ -129,7 +129,7 @@ pub fn expression(
 }
 
 // The parts of an expression, by its mark.
-#[cycle(arm_arms_block_does_expression_matching_parts_row_stmt)]
+#[cycle(checking)]
 fn parts(
     book: &[u8],
     index: &[u16],
@@ -163,7 +163,7 @@ fn parts(
 }
 
 // The elements of a record's row.
-#[cycle(arm_arms_block_does_expression_matching_parts_row_stmt)]
+#[cycle(checking)]
 fn row(
     book: &[u8],
     index: &[u16],
@@ -195,7 +195,7 @@ fn row(
 }
 
 // A match of n arms, the first of whose patterns is field `from`: the scrutinee's type has those arms; the arms; the scrutinee.
-#[cycle(arm_arms_block_does_expression_matching_parts_row_stmt)]
+#[cycle(checking)]
 fn matching(
     book: &[u8],
     index: &[u16],
@@ -226,7 +226,7 @@ fn matching(
 }
 
 // The arms of a match on the type t.
-#[cycle(arm_arms_block_does_expression_matching_parts_row_stmt)]
+#[cycle(checking)]
 fn arms(
     book: &[u8],
     index: &[u16],
@@ -271,7 +271,7 @@ fn arms(
 }
 
 // The arm whose pattern is field j, of the type s: its expression, where its pattern is bound.
-#[cycle(arm_arms_block_does_expression_matching_parts_row_stmt)]
+#[cycle(checking)]
 fn arm(
     book: &[u8],
     index: &[u16],
@@ -297,7 +297,7 @@ fn arm(
 }
 
 // A block: its statements in order, and its end.
-#[cycle(arm_arms_block_does_expression_matching_parts_row_stmt)]
+#[cycle(checking)]
 fn block(
     book: &[u8],
     index: &[u16],
@@ -347,7 +347,7 @@ fn entered(book: &[u8], index: &[u16], s: u16, live: usize) -> usize
 }
 
 // A statement: its expression, and then its binding, or that it is of type unit.
-#[cycle(arm_arms_block_does_expression_matching_parts_row_stmt)]
+#[cycle(checking)]
 fn stmt(
     book: &[u8],
     index: &[u16],
@@ -377,7 +377,7 @@ fn stmt(
 }
 
 // A statement that is an expression alone.
-#[cycle(arm_arms_block_does_expression_matching_parts_row_stmt)]
+#[cycle(checking)]
 fn does(
     book: &[u8],
     index: &[u16],

@@ -1,0 +1,18 @@
+-- `functions` meets its contract: the functions before r have passed.
+-- Assumes nothing.
+use Prim.Native.Nat.{◌-◌}
+use mathlib.Core.Path.{refl, ◌∙◌}
+use native.Mathlib.Omega.{arith}
+use Rattle.typing.specs.Whole.{in_order, function_at}
+use Rattle.typing.proofs.Scopes.{stays_rows}
+use Rattle.typing.proofs.Steps.{missing_length, Going, going_start, going_next, going_halt, going_end}
+use Rattle.typing.proofs.Orders.{among_of, order_start, order_next, order_none}
+use borrow.Author.Rules.{rules}
+use Rattle.typing.proofs.functions.Given as goal
+
+abbrev pub invariant-loop-r : goal.invariant-loop-r
+invariant-loop-r l =
+    Going l.book l.index (in_order (function_at l.book l.index) 0 l.n) 0 l.initial.memo l.initial.scope (in_order (function_at l.book l.index) l.r (l.n - l.r)) l.memo l.vain l.scope l.r l.n
+
+abbrev pub decreases-loop-r : goal.decreases-loop-r
+decreases-loop-r l = l.n - l.r
