@@ -1,7 +1,7 @@
 // CHECK: each declared type against the one its parts give.
 #![tactic(auto)]
 
-ghost use Rattle.std.specs.Prelude.{◌≡◌, ◌-◌};
+ghost use Rattle.std.specs.Prelude.{◌*◌, ◌^◌, ◌<◌, ◌≡◌, ◌-◌};
 ghost use Rattle.book.specs.Tree.{expr_of};
 ghost use Rattle.book.specs.Valid.{Valid, Tiles};
 ghost use Rattle.binders.specs.Binders.{root_scope};
@@ -71,8 +71,7 @@ fn few(book: &[u8], index: &[u16], n: u16, doubled: &[u8]) -> Checked
     requires doubled { Doubled book.now index.now n doubled.now }
     ensures { result ≡ and_then (in_order (function_at book.now index.now) 0 n) (check (expr_of book.now index.now (n - 1)) root_scope) }
 {
-    let mut memo = [0u32; 8192];
-    scoped(book, index, n, doubled, &mut memo)
+    sized::<8192>(book, index, n, doubled)
 }
 
 // The same in any book, with a memo that is dear to clear.
@@ -82,7 +81,18 @@ fn many(book: &[u8], index: &[u16], n: u16, doubled: &[u8]) -> Checked
     requires doubled { Doubled book.now index.now n doubled.now }
     ensures { result ≡ and_then (in_order (function_at book.now index.now) 0 n) (check (expr_of book.now index.now (n - 1)) root_scope) }
 {
-    let mut memo = [0u32; 524288];
+    sized::<524288>(book, index, n, doubled)
+}
+
+// The same with a memo of N words that knows no pair yet: the proof counts to no N.
+fn sized<const N: usize>(book: &[u8], index: &[u16], n: u16, doubled: &[u8]) -> Checked
+    requires size { N * 4 < 2 ^ 63 }
+    requires valid { Valid book.now index.now n }
+    requires tiles { Tiles book.now index.now n }
+    requires doubled { Doubled book.now index.now n doubled.now }
+    ensures { result ≡ and_then (in_order (function_at book.now index.now) 0 n) (check (expr_of book.now index.now (n - 1)) root_scope) }
+{
+    let mut memo = [0u32; N];
     scoped(book, index, n, doubled, &mut memo)
 }
 
