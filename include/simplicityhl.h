@@ -3,9 +3,9 @@
  * A book is one program as a row of bytes; docs/BOOK.md says how. LOWER gives the combinators of a book as a table of
  * nodes. RUN runs such a table, with a value of the book for each witness.
  *
- * The functions stand in target/staticlib/libhost.a, which `rt staticlib host` proves and writes. It is for Linux on
- * x86-64, has no data of its own, may be linked into a program or a shared object, and needs memcpy and memset of the C
- * library. This file needs C11 or C++11. There is no version number: take both from one checkout.
+ * The functions stand in crates/host/out/libhost.a, which `rt lib`, in crates/host, proves and writes. It is for Linux
+ * on x86-64, has no data of its own, may be linked into a program or a shared object, and needs memcpy and memset of the
+ * C library. This file needs C11 or C++11. There is no version number: take both from one checkout.
  *
  * Every call answers, whatever its bytes and numbers are, and writes nothing but the table that it is lent last. It
  * keeps nothing for the next call, so threads may call at the same time.

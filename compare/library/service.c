@@ -135,7 +135,7 @@ static void set_guards(const struct slice *slice) {
     memcpy(bytes_of(slice) + slice->length, guard, GUARD);
 }
 
-/* By blocks, here and below: under the emulator a long copy is dear. */
+/* By blocks, here and below: under an emulator a long copy is dear. */
 static void take_input(const struct slice *slice) {
     byte *bytes = bytes_of(slice);
     take_more(bytes, slice->length);

@@ -87,8 +87,7 @@ pub fn least_room(fits: impl Fn(usize) -> bool) -> Option<usize> {
     Some(least)
 }
 
-/// How programs for x86-64 are started here: under the kit's loader and, on
-/// another processor, its emulator.
+/// How programs are started here: under the kit's loader and C library.
 pub struct Start<'a> {
     pub under: &'a [&'a str],
 }
