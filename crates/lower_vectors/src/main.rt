@@ -6,7 +6,9 @@
 
 use book::fault::fault_number;
 use compile::{LowerAnswer, lower};
-use libc::STDIN_FILENO;
+use console::read_full;
+use std::io;
+use std::io::Read;
 use vectors::{begins_with, fill, is_zero_from, low_first, print_totals, print_wrong, size_of};
 
 // No stored vector has a longer table, book or row of nodes: tests/lower_vectors.py sees to it. A full table, of 327,675 bytes, would
@@ -43,13 +45,19 @@ fn is_right(head: [u8; 15], book: &[u8], nodes: &[u8], table: &mut [u8]) -> bool
 }
 
 // The next book and nodes, read into all of their parts.
-fn is_read_right(head: [u8; 15], book: &mut [u8], nodes: &mut [u8], table: &mut [u8]) -> bool {
-    let b = io::read_full(STDIN_FILENO, book);
-    let n = io::read_full(STDIN_FILENO, nodes);
-    is_right(head, &book[..b], &nodes[..n], table)
+fn is_read_right(
+    input: &mut impl Read,
+    head: [u8; 15],
+    book: &mut [u8],
+    nodes: &mut [u8],
+    table: &mut [u8],
+) -> io::Result<bool> {
+    let b = read_full(input, book)?;
+    let n = read_full(input, nodes)?;
+    Ok(is_right(head, &book[..b], &nodes[..n], table))
 }
 
-fn is_next_right(head: [u8; 15]) -> bool {
+fn is_next_right(input: &mut impl Read, head: [u8; 15]) -> io::Result<bool> {
     let mut table = [0u8; MOST];
     let mut book = [0u8; MOST];
     let mut nodes = [0u8; MOST];
@@ -57,30 +65,38 @@ fn is_next_right(head: [u8; 15]) -> bool {
     let b = size_of(head[9], head[10], head[11]);
     let n = size_of(head[12], head[13], head[14]);
     if MOST < t {
-        return false;
+        return Ok(false);
     }
     if MOST < b {
-        return false;
+        return Ok(false);
     }
     if MOST < n {
-        return false;
+        return Ok(false);
     }
-    is_read_right(head, &mut book[..b], &mut nodes[..n], &mut table[..t])
+    is_read_right(
+        input,
+        head,
+        &mut book[..b],
+        &mut nodes[..n],
+        &mut table[..t],
+    )
 }
 
-fn main() {
+fn main(rt: HostRuntime) -> io::Result<()> {
+    let mut input = rt.stdin();
+    let mut out = rt.stdout();
     let mut head = [0u8; 15];
     let mut run: u64 = 0;
     let mut wrong: u64 = 0;
     while run < 1000000 {
-        if io::read_full(STDIN_FILENO, &mut head) < 15 {
+        if read_full(&mut input, &mut head)? < 15 {
             break;
         }
-        if !is_next_right(head) {
-            print_wrong(run);
+        if !is_next_right(&mut input, head)? {
+            print_wrong(&mut out, run)?;
             wrong += 1;
         }
         run += 1;
     }
-    print_totals(run, wrong);
+    print_totals(&mut out, run, wrong)
 }

@@ -4,33 +4,38 @@
 ghost use Rattle.std.specs.Prelude.{◌+◌, ◌*◌, ◌≤◌, length};
 
 use compile::{LowerAnswer, lower};
-use libc::{STDIN_FILENO, STDOUT_FILENO};
+use console::{print_count, print_refusal, read_full};
+use std::io;
+use std::io::Write;
+
+// One byte more than a book may have: a longer input is refused as such.
+const BOOK: usize = 65536;
 
 // Room for 13,000 nodes.
 const ROOM: usize = 65000;
 
-fn print(text: &[u8]) {
-    io::write_all(STDOUT_FILENO, text);
+fn print(out: &mut impl Write, text: &[u8]) -> io::Result<()> {
+    out.write_all(text)
 }
 
 // A kind's name.
-fn print_kind(kind: u8) {
+fn print_kind(out: &mut impl Write, kind: u8) -> io::Result<()> {
     match kind {
-        1 => print(b"iden"),
-        2 => print(b"unit"),
-        3 => print(b"injl"),
-        4 => print(b"injr"),
-        5 => print(b"take"),
-        6 => print(b"drop"),
-        7 => print(b"comp"),
-        8 => print(b"case"),
-        9 => print(b"pair"),
-        10 => print(b"assertl"),
-        11 => print(b"assertr"),
-        12 => print(b"fail"),
-        13 => print(b"witness"),
-        14 => print(b"scribe"),
-        _ => print(b"jet"),
+        1 => print(out, b"iden"),
+        2 => print(out, b"unit"),
+        3 => print(out, b"injl"),
+        4 => print(out, b"injr"),
+        5 => print(out, b"take"),
+        6 => print(out, b"drop"),
+        7 => print(out, b"comp"),
+        8 => print(out, b"case"),
+        9 => print(out, b"pair"),
+        10 => print(out, b"assertl"),
+        11 => print(out, b"assertr"),
+        12 => print(out, b"fail"),
+        13 => print(out, b"witness"),
+        14 => print(out, b"scribe"),
+        _ => print(out, b"jet"),
     }
 }
 
@@ -50,48 +55,46 @@ fn operands(kind: u8) -> usize {
     }
 }
 
-fn print_operand(low: u8, high: u8) {
-    print(b" ");
-    io::print_decimal(STDOUT_FILENO, (low as u64) + 256 * (high as u64));
+fn print_operand(out: &mut impl Write, low: u8, high: u8) -> io::Result<()> {
+    let operand = (low as u64) + 256 * (high as u64);
+    write!(out, " {operand}")
 }
 
 // Node k: its number, kind and operands.
-fn print_node(nodes: &[u8], k: usize)
+fn print_node(out: &mut impl Write, nodes: &[u8], k: usize) -> io::Result<()>
     requires { 5 * k + 5 ≤ length nodes.now }
 {
     let at = 5 * k;
     let kind = nodes[at];
-    io::print_decimal(STDOUT_FILENO, k as u64);
-    print(b" ");
-    print_kind(kind);
+    write!(out, "{k} ")?;
+    print_kind(out, kind)?;
     let shown = operands(kind);
     if 0 < shown {
-        print_operand(nodes[at + 1], nodes[at + 2]);
+        print_operand(out, nodes[at + 1], nodes[at + 2])?;
     }
     if 1 < shown {
-        print_operand(nodes[at + 3], nodes[at + 4]);
+        print_operand(out, nodes[at + 3], nodes[at + 4])?;
     }
-    print(b"\n");
+    print(out, b"\n")
 }
 
-fn print_nodes(nodes: &[u8], count: usize)
+fn print_nodes(out: &mut impl Write, nodes: &[u8], count: usize) -> io::Result<()>
     requires { 5 * count ≤ length nodes.now }
 {
-    console::print_count(b"nodes", count as u64);
-    let mut k: usize = 0;
-    while k < count {
-        print_node(nodes, k);
-        k += 1;
+    print_count(out, b"nodes", count as u64)?;
+    for k in 0..count {
+        print_node(out, nodes, k)?;
     }
+    Ok(())
 }
 
-fn main() {
-    // One byte more than a book may have: a longer input is refused as such.
-    let mut buffer = io::large_buffer();
-    let n = io::read_full(STDIN_FILENO, &mut buffer);
+fn main(rt: HostRuntime) -> io::Result<()> {
+    let mut buffer = [0u8; BOOK];
+    let n = read_full(&mut rt.stdin(), &mut buffer)?;
     let mut nodes = [0u8; ROOM];
+    let mut out = rt.stdout();
     match lower(&buffer[..n], false, &mut nodes) {
-        LowerAnswer::Nodes(count) => print_nodes(&nodes, count as usize),
-        LowerAnswer::Refused(why) => console::print_refusal(why),
+        LowerAnswer::Nodes(count) => print_nodes(&mut out, &nodes, count as usize),
+        LowerAnswer::Refused(why) => print_refusal(&mut out, why),
     }
 }

@@ -9,8 +9,10 @@ ghost use Rattle.std.specs.Prelude.{◌≡◌, ◌+◌, ◌≤◌, ◌<◌, leng
 
 use cells::table::{PAIR, UNIT, kind_at, left_at, right_at};
 use compile::{LowerAnswer, lower};
-use libc::STDIN_FILENO;
+use console::read_full;
 use run::{RunAnswer, run};
+use std::io;
+use std::io::Read;
 use typing::{CheckAnswer, check};
 use vectors::{low_first, print_totals, print_wrong};
 
@@ -50,19 +52,16 @@ fn is_value_within(cells: &[u8], cell: u16, due: &[u8], row: &mut [u16]) -> bool
     requires { length due.now < length row.old }
 {
     let mut waiting = put(row, 0, cell);
-    let mut k: usize = 0;
-    while k < due.len() {
+    for kind in due {
         if waiting == 0 {
             return false;
         }
         let at = waiting - 1;
         let x = row[at];
-        let kind = due[k];
-        if kind_at(cells, x) != kind {
+        if kind_at(cells, x) != *kind {
             return false;
         }
-        waiting = put_parts(row, at, kind, left_at(cells, x), right_at(cells, x));
-        k += 1;
+        waiting = put_parts(row, at, *kind, left_at(cells, x), right_at(cells, x));
     }
     waiting == 0
 }
@@ -114,45 +113,53 @@ fn is_right(book: &[u8], witnesses: &[u8], due: &[u8]) -> bool {
 }
 
 // The same for the next case, read into all of its parts.
-fn is_read_right(book: &mut [u8], witnesses: &mut [u8], due: &mut [u8]) -> bool {
-    io::read_full(STDIN_FILENO, book);
-    io::read_full(STDIN_FILENO, witnesses);
-    io::read_full(STDIN_FILENO, due);
-    is_right(book, witnesses, due)
+fn is_read_right(
+    input: &mut impl Read,
+    book: &mut [u8],
+    witnesses: &mut [u8],
+    due: &mut [u8],
+) -> io::Result<bool> {
+    read_full(input, book)?;
+    read_full(input, witnesses)?;
+    read_full(input, due)?;
+    Ok(is_right(book, witnesses, due))
 }
 
 // The same in room for the parts of any, of these lengths.
-fn is_sized_right(b: u16, w: u16, d: u16) -> bool {
+fn is_sized_right(input: &mut impl Read, b: u16, w: u16, d: u16) -> io::Result<bool> {
     let mut book = [0u8; MOST];
     let mut witnesses = [0u8; MOST];
     let mut due = [0u8; MOST];
     is_read_right(
+        input,
         &mut book[..b as usize],
         &mut witnesses[..w as usize],
         &mut due[..d as usize],
     )
 }
 
-fn is_next_right(head: [u8; 6]) -> bool {
+fn is_next_right(input: &mut impl Read, head: [u8; 6]) -> io::Result<bool> {
     let b = low_first(head[0], head[1]);
     let w = low_first(head[2], head[3]);
     let d = low_first(head[4], head[5]);
-    is_sized_right(b, w, d)
+    is_sized_right(input, b, w, d)
 }
 
-fn main() {
+fn main(rt: HostRuntime) -> io::Result<()> {
+    let mut input = rt.stdin();
+    let mut out = rt.stdout();
     let mut head = [0u8; 6];
     let mut all: u64 = 0;
     let mut wrong: u64 = 0;
     while all < 1000000 {
-        if io::read_full(STDIN_FILENO, &mut head) < 6 {
+        if read_full(&mut input, &mut head)? < 6 {
             break;
         }
-        if !is_next_right(head) {
-            print_wrong(all);
+        if !is_next_right(&mut input, head)? {
+            print_wrong(&mut out, all)?;
             wrong += 1;
         }
         all += 1;
     }
-    print_totals(all, wrong);
+    print_totals(&mut out, all, wrong)
 }

@@ -2,14 +2,18 @@
 #![tactic(auto)]
 
 use book::fault::ReadAnswer;
-use libc::STDIN_FILENO;
+use console::{print_count, print_refusal, read_full};
+use std::io;
 
-fn main() {
-    // One byte more than a book may have: a longer input is refused as such.
-    let mut buffer = io::large_buffer();
-    let n = io::read_full(STDIN_FILENO, &mut buffer);
+// One byte more than a book may have: a longer input is refused as such.
+const ROOM: usize = 65536;
+
+fn main(rt: HostRuntime) -> io::Result<()> {
+    let mut buffer = [0u8; ROOM];
+    let n = read_full(&mut rt.stdin(), &mut buffer)?;
+    let mut out = rt.stdout();
     match book::read::read(&buffer[..n]) {
-        ReadAnswer::Records(count) => console::print_count(b"records", count as u64),
-        ReadAnswer::Refused(why) => console::print_refusal(why),
+        ReadAnswer::Records(count) => print_count(&mut out, b"records", count as u64),
+        ReadAnswer::Refused(why) => print_refusal(&mut out, why),
     }
 }

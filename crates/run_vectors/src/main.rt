@@ -9,8 +9,10 @@ ghost use Rattle.std.specs.Prelude.{◌+◌, ◌*◌, ◌≤◌, ◌<◌, length
 
 use book::fault::fault_number;
 use book::word::word;
-use libc::STDIN_FILENO;
+use console::read_full;
 use run::{RunAnswer, run};
+use std::io;
+use std::io::{Read, Write};
 use vectors::{begins_with, fill, is_zero_from, print_totals, print_wrong};
 
 // The expected answer, the count of nodes, the bytes of the cells, of the book, of the witnesses and of the nodes; the bytes given of
@@ -125,7 +127,8 @@ fn is_right(
 
 // The number that stands five bytes before, and more.
 fn put_more(table: &mut [u8], to: usize, more: u8)
-    requires { (5 ≤ to) × (to + 1 < length table.old) }
+    requires to_in_range { 5 ≤ to }
+    requires to_fits { to + 1 < length table.old }
 {
     let n = (word(table, to - 5) as u32) + (more as u32);
     table[to] = (n % 256) as u8;
@@ -155,15 +158,21 @@ fn grow(table: &mut [u8], from: usize, growth: u32)
 }
 
 // Reads what is given of a table, and grows it.
-fn read_table(table: &mut [u8], given: usize, growth: u32) {
+fn read_table(
+    input: &mut impl Read,
+    table: &mut [u8],
+    given: usize,
+    growth: u32,
+) -> io::Result<()> {
     fill(table);
     if table.len() < given {
-        return;
+        return Ok(());
     }
-    io::read_full(STDIN_FILENO, &mut table[..given]);
+    read_full(input, &mut table[..given])?;
     if 5 <= given {
         grow(table, given, growth);
     }
+    Ok(())
 }
 
 // An entry becomes of this kind, or of the next where n is odd.
@@ -182,11 +191,9 @@ fn put_bits(table: &mut [u8], places: &[u8], from: usize, count: usize, kind: u8
     requires kind_in_range { kind < 255 }
 {
     let mut rest = n;
-    let mut k: usize = 0;
-    while k < count {
+    for k in 0..count {
         put_bit(table, places[from + k], kind, rest);
         rest = rest / 2;
-        k += 1;
     }
 }
 
@@ -211,7 +218,9 @@ fn put_use(nodes: &mut [u8], due: &mut [u8], places: &[u8], at: usize, bits: usi
 
 // All uses of a jet: n and the three numbers after it.
 fn put_uses(nodes: &mut [u8], due: &mut [u8], places: &[u8], bits: usize, n: u32)
-    requires { (4 * (32 + bits) ≤ length places.now) × ((bits ≤ 9) × (n ≤ 65536)) }
+    requires bits_fits { 4 * (32 + bits) ≤ length places.now }
+    requires bits_in_range { bits ≤ 9 }
+    requires n_in_range { n ≤ 65536 }
 {
     let width = 32 + bits;
     put_use(nodes, due, places, 0, bits, n);
@@ -233,91 +242,95 @@ fn is_jet_right(
     requires bits_fits { 4 * (32 + bits) ≤ length places.now }
     requires bits_in_range { bits ≤ 9 }
 {
-    let mut n: u32 = 0;
-    while n < 65536 {
-        put_uses(nodes, due, places, bits, n);
+    for fourth in 0..16384u32 {
+        put_uses(nodes, due, places, bits, 4 * fourth);
         if !is_right(head, book, b"", nodes, due, cells) {
             return false;
         }
-        n += 4;
     }
     true
 }
 
 // Reads the places of a jet's bits, and runs it.
 fn is_next_jet_right(
+    input: &mut impl Read,
     head: [u8; 56],
     book: &[u8],
     nodes: &mut [u8],
     due: &mut [u8],
     cells: &mut [u8],
-) -> bool {
+) -> io::Result<bool> {
     let bits = size_at(head, RESULT);
     if 9 < bits {
-        return false;
+        return Ok(false);
     }
     let mut places = [0u8; PLACES];
-    io::read_full(STDIN_FILENO, &mut places);
-    is_jet_right(head, book, nodes, due, cells, &places, bits)
+    read_full(input, &mut places)?;
+    Ok(is_jet_right(head, book, nodes, due, cells, &places, bits))
 }
 
 // The rest of a vector, read into all of its parts, and run.
 fn is_read_right(
+    input: &mut impl Read,
     head: [u8; 56],
     book: &mut [u8],
     witnesses: &mut [u8],
     nodes: &mut [u8],
     due: &mut [u8],
     cells: &mut [u8],
-) -> bool {
-    io::read_full(STDIN_FILENO, book);
-    io::read_full(STDIN_FILENO, witnesses);
+) -> io::Result<bool> {
+    read_full(input, book)?;
+    read_full(input, witnesses)?;
     read_table(
+        input,
         nodes,
         size_at(head, GIVEN_NODES),
         number_at(head, NODES_GROWTH),
-    );
+    )?;
     read_table(
+        input,
         due,
         size_at(head, GIVEN_CELLS),
         number_at(head, CELLS_GROWTH),
-    );
+    )?;
     if is_number(head, RESULT, 0) {
-        return is_right(head, book, witnesses, nodes, due, cells);
+        return Ok(is_right(head, book, witnesses, nodes, due, cells));
     }
-    is_next_jet_right(head, book, nodes, due, cells)
+    is_next_jet_right(input, head, book, nodes, due, cells)
 }
 
 // The same where the parts have room.
 fn is_next_right(
+    input: &mut impl Read,
     head: [u8; 56],
     book: &mut [u8],
     witnesses: &mut [u8],
     nodes: &mut [u8],
     due: &mut [u8],
     cells: &mut [u8],
-) -> bool {
+) -> io::Result<bool> {
     let b = size_at(head, BOOK);
     let w = size_at(head, WITNESSES);
     let t = size_at(head, TABLE);
     let d = 5 * size_at(head, COUNT);
     let c = size_at(head, ROOM);
     if book.len() < b {
-        return false;
+        return Ok(false);
     }
     if witnesses.len() < w {
-        return false;
+        return Ok(false);
     }
     if nodes.len() < t {
-        return false;
+        return Ok(false);
     }
     if due.len() < d {
-        return false;
+        return Ok(false);
     }
     if cells.len() < c {
-        return false;
+        return Ok(false);
     }
     is_read_right(
+        input,
         head,
         &mut book[..b],
         &mut witnesses[..w],
@@ -329,33 +342,43 @@ fn is_next_right(
 
 // Every vector, in room for the parts of any.
 fn run_all(
+    input: &mut impl Read,
+    out: &mut impl Write,
     book: &mut [u8],
     witnesses: &mut [u8],
     nodes: &mut [u8],
     due: &mut [u8],
     cells: &mut [u8],
-) {
+) -> io::Result<()> {
     let mut head = [0u8; 56];
     let mut all: u64 = 0;
     let mut wrong: u64 = 0;
     while all < 1000000 {
-        if io::read_full(STDIN_FILENO, &mut head) < 56 {
+        if read_full(input, &mut head)? < 56 {
             break;
         }
-        if !is_next_right(head, book, witnesses, nodes, due, cells) {
-            print_wrong(all);
+        if !is_next_right(input, head, book, witnesses, nodes, due, cells)? {
+            print_wrong(out, all)?;
             wrong += 1;
         }
         all += 1;
     }
-    print_totals(all, wrong);
+    print_totals(out, all, wrong)
 }
 
-fn main() {
+fn main(rt: HostRuntime) -> io::Result<()> {
     let mut book = [0u8; MOST_BOOK];
     let mut witnesses = [0u8; MOST_WITNESSES];
     let mut nodes = [0u8; MOST_TABLE];
     let mut due = [0u8; MOST_TABLE];
     let mut cells = [0u8; MOST_TABLE];
-    run_all(&mut book, &mut witnesses, &mut nodes, &mut due, &mut cells);
+    run_all(
+        &mut rt.stdin(),
+        &mut rt.stdout(),
+        &mut book,
+        &mut witnesses,
+        &mut nodes,
+        &mut due,
+        &mut cells,
+    )
 }

@@ -7,8 +7,13 @@ ghost use Rattle.std.specs.Prelude.{◌≡◌, ◌+◌, ◌≤◌, ◌<◌, leng
 use book::word::word;
 use cells::table::{LEFT, RIGHT, UNIT, kind_at, left_at, right_at};
 use compile::{LowerAnswer, lower};
-use libc::{STDIN_FILENO, STDOUT_FILENO};
+use console::{print_refusal, read_full};
 use run::{RunAnswer, run};
+use std::io;
+use std::io::{Read, Write};
+
+// More than a book may have: its length is announced in two bytes.
+const BOOK: usize = 65536;
 
 // An entry for each of the 65,536 names that a witness may have: what follows is never read.
 const LIST: usize = 131072;
@@ -32,8 +37,8 @@ struct Place {
     whole: bool,
 }
 
-fn print(text: &[u8]) {
-    io::write_all(STDOUT_FILENO, text);
+fn print(out: &mut impl Write, text: &[u8]) -> io::Result<()> {
+    out.write_all(text)
 }
 
 // A character at a place, if it fits.
@@ -46,7 +51,8 @@ fn put(text: &mut [u8], at: usize, c: u8) {
 // Two characters, and then the cell, or what follows a whole one.
 fn put_two(text: &mut [u8], s: Place, a: u8, b: u8, cell: u16, whole: bool) -> Place
     requires { s.len ≤ 65536 }
-    ensures { (result.len ≡ s.len + 2) × (result.open ≡ s.open) }
+    ensures len { result.len ≡ s.len + 2 }
+    ensures pairs { result.open ≡ s.open }
 {
     put(text, s.len, a);
     put(text, s.len + 1, b);
@@ -60,8 +66,11 @@ fn put_two(text: &mut [u8], s: Place, a: u8, b: u8, cell: u16, whole: bool) -> P
 
 // Opens a pair: its second part is left to write.
 fn open(text: &mut [u8], row: &mut [u16], s: Place, first: u16, second: u16) -> Place
-    requires { ((s.open ≤ s.len) × (s.len ≤ 65536)) × (65536 < length row.old) }
-    ensures { (result.len ≡ s.len + 1) × (result.open ≡ s.open + 1) }
+    requires open_fits { s.open ≤ s.len }
+    requires len_fits { s.len ≤ 65536 }
+    requires row_fits { 65536 < length row.old }
+    ensures len { result.len ≡ s.len + 1 }
+    ensures pairs { result.open ≡ s.open + 1 }
 {
     let at = s.open;
     put(text, s.len, b'(');
@@ -76,8 +85,11 @@ fn open(text: &mut [u8], row: &mut [u16], s: Place, first: u16, second: u16) -> 
 
 // Begins the next cell. No more pairs are open than there are characters, since each has its parenthesis.
 fn begin(cells: &[u8], text: &mut [u8], row: &mut [u16], s: Place) -> Place
-    requires { ((s.open ≤ s.len) × (s.len ≤ 65536)) × (65536 < length row.old) }
-    ensures { (s.len < result.len) × (result.open ≤ result.len) }
+    requires open_fits { s.open ≤ s.len }
+    requires len_fits { s.len ≤ 65536 }
+    requires row_fits { 65536 < length row.old }
+    ensures grows { s.len < result.len }
+    ensures open_fits { result.open ≤ result.len }
 {
     let part = left_at(cells, s.cell);
     let kind = kind_at(cells, s.cell);
@@ -91,8 +103,12 @@ fn begin(cells: &[u8], text: &mut [u8], row: &mut [u16], s: Place) -> Place
 
 // Goes on in the pair that was opened last: to its second part, or to its end.
 fn go_on(text: &mut [u8], row: &mut [u16], s: Place) -> Place
-    requires { ((s.open ≤ s.len) × (s.len ≤ 65536)) × ((65536 < length row.old) × (0 < s.open)) }
-    ensures { (s.len < result.len) × (result.open ≤ result.len) }
+    requires open_fits { s.open ≤ s.len }
+    requires len_fits { s.len ≤ 65536 }
+    requires row_fits { 65536 < length row.old }
+    requires is_open { 0 < s.open }
+    ensures grows { s.len < result.len }
+    ensures open_fits { result.open ≤ result.len }
 {
     let at = s.open - 1;
     let second = row[at];
@@ -133,41 +149,53 @@ fn spell(cells: &[u8], cell: u16, text: &mut [u8], row: &mut [u16]) -> usize
 }
 
 // Prints what is spelled of a cell.
-fn print_spelled(cells: &[u8], cell: u16, text: &mut [u8], row: &mut [u16])
+fn print_spelled(
+    out: &mut impl Write,
+    cells: &[u8],
+    cell: u16,
+    text: &mut [u8],
+    row: &mut [u16],
+) -> io::Result<()>
     requires { 65536 < length row.old }
 {
     let n = spell(cells, cell, text, row);
-    print(b"value\n");
+    print(out, b"value\n")?;
     if text.len() < n {
-        print(text);
-        print(b" ...\n");
+        print(out, text)?;
+        print(out, b" ...\n")
     } else {
-        print(&text[..n]);
-        print(b"\n");
+        print(out, &text[..n])?;
+        print(out, b"\n")
     }
 }
 
 // The row is one longer than the text: each of its entries has a parenthesis there.
-fn print_value(cells: &[u8], cell: u16) {
+fn print_value(out: &mut impl Write, cells: &[u8], cell: u16) -> io::Result<()> {
     let mut text = [0u8; MOST];
     let mut row = [0u16; 65537];
-    print_spelled(cells, cell, &mut text, &mut row);
+    print_spelled(out, cells, cell, &mut text, &mut row)
 }
 
-fn run_nodes(book: &[u8], witnesses: &[u8], nodes: &[u8], count: u16) {
+fn run_nodes(
+    out: &mut impl Write,
+    book: &[u8],
+    witnesses: &[u8],
+    nodes: &[u8],
+    count: u16,
+) -> io::Result<()> {
     let mut cells = [0u8; TABLE];
     match run(book, witnesses, nodes, count as u32, &mut cells) {
-        RunAnswer::Value { cell, .. } => print_value(&cells, cell),
-        RunAnswer::Failed => print(b"failed\n"),
-        RunAnswer::Refused(why) => console::print_refusal(why),
+        RunAnswer::Value { cell, .. } => print_value(out, &cells, cell),
+        RunAnswer::Failed => print(out, b"failed\n"),
+        RunAnswer::Refused(why) => print_refusal(out, why),
     }
 }
 
-fn run_book(book: &[u8], witnesses: &[u8]) {
+fn run_book(out: &mut impl Write, book: &[u8], witnesses: &[u8]) -> io::Result<()> {
     let mut nodes = [0u8; TABLE];
     match lower(book, false, &mut nodes) {
-        LowerAnswer::Nodes(count) => run_nodes(book, witnesses, &nodes, count),
-        LowerAnswer::Refused(why) => console::print_refusal(why),
+        LowerAnswer::Nodes(count) => run_nodes(out, book, witnesses, &nodes, count),
+        LowerAnswer::Refused(why) => print_refusal(out, why),
     }
 }
 
@@ -185,18 +213,29 @@ fn book_size(announced: usize, n: usize) -> usize
 }
 
 // Reads the book, into a part as long as it is announced, and the witness list, and runs them.
-fn run_input(book: &mut [u8], list: &mut [u8]) {
-    let n = io::read_full(STDIN_FILENO, book);
-    let w = io::read_full(STDIN_FILENO, list);
+fn run_input(
+    input: &mut impl Read,
+    out: &mut impl Write,
+    book: &mut [u8],
+    list: &mut [u8],
+) -> io::Result<()> {
+    let n = read_full(input, book)?;
+    let w = read_full(input, list)?;
     let size = book_size(book.len(), n);
-    run_book(&book[..size], &list[..w]);
+    run_book(out, &book[..size], &list[..w])
 }
 
-fn main() {
+fn main(rt: HostRuntime) -> io::Result<()> {
+    let mut input = rt.stdin();
     let mut head = [0u8; 2];
-    let mut buffer = io::large_buffer();
+    let mut buffer = [0u8; BOOK];
     let mut list = [0u8; LIST];
-    io::read_full(STDIN_FILENO, &mut head);
+    read_full(&mut input, &mut head)?;
     let announced = word(&head, 0) as usize;
-    run_input(&mut buffer[..announced], &mut list);
+    run_input(
+        &mut input,
+        &mut rt.stdout(),
+        &mut buffer[..announced],
+        &mut list,
+    )
 }

@@ -1,8 +1,13 @@
 // What the programs share that replay vectors: numbers in bytes, tables held against what is due, and the verdict.
 #![tactic(auto)]
 
-ghost use Rattle.std.specs.Prelude.{◌≡◌, true, ◌+◌, ◌*◌, length};
+ghost use Rattle.std.specs.Prelude.{◌≡◌, true, ◌+◌, ◌*◌, ◌++◌, length, codes, OnOk};
+ghost use Rattle.std.specs.Io.KnownBytes.{Appends};
+ghost use Rattle.console.specs.Lines.{count_line};
 ghost use Rattle.vectors.specs.Tables.{Alike, AllFrom};
+
+use std::io;
+use std::io::Write;
 
 // A number of two bytes, low first.
 pub fn low_first(a: u8, b: u8) -> u16
@@ -25,12 +30,10 @@ pub fn begins_with(table: &[u8], due: &[u8]) -> bool
     if table.len() < due.len() {
         return false;
     }
-    let mut k: usize = 0;
-    while k < due.len() {
-        if table[k] != due[k] {
+    for (k, byte) in due.iter().enumerate() {
+        if table[k] != *byte {
             return false;
         }
-        k += 1;
     }
     true
 }
@@ -39,12 +42,10 @@ pub fn begins_with(table: &[u8], due: &[u8]) -> bool
 pub fn is_zero_from(table: &[u8], from: usize) -> bool
     ensures { result ≡ true → AllFrom 0 table.now from (length table.now) }
 {
-    let mut k = from;
-    while k < table.len() {
+    for k in from..table.len() {
         if table[k] != 0 {
             return false;
         }
-        k += 1;
     }
     true
 }
@@ -53,20 +54,22 @@ pub fn is_zero_from(table: &[u8], from: usize) -> bool
 pub fn fill(table: &mut [u8])
     ensures { AllFrom 165 table.new 0 (length table.old) }
 {
-    let mut k: usize = 0;
-    while k < table.len() {
-        table[k] = 165;
-        k += 1;
+    for byte in table.iter_mut() {
+        *byte = 165;
     }
 }
 
 // A vector whose answer was wrong.
-pub fn print_wrong(i: u64) {
-    console::print_count(b"wrong", i);
+pub fn print_wrong<W: Write>(out: &mut W, i: u64) -> io::Result<()>
+    ensures { OnOk result (Appends (W.contents out.old) (W.contents out.new) (count_line (codes "wrong") i)) }
+{
+    console::print_count(out, b"wrong", i)
 }
 
 // How many vectors there were, and how many answers were wrong.
-pub fn print_totals(all: u64, wrong: u64) {
-    console::print_count(b"vectors", all);
-    console::print_count(b"wrong", wrong);
+pub fn print_totals<W: Write>(out: &mut W, all: u64, wrong: u64) -> io::Result<()>
+    ensures { OnOk result (Appends (W.contents out.old) (W.contents out.new) (count_line (codes "vectors") all ++ count_line (codes "wrong") wrong)) }
+{
+    console::print_count(out, b"vectors", all)?;
+    console::print_count(out, b"wrong", wrong)
 }
