@@ -12,7 +12,7 @@ use native.Mathlib.Decide.{dec_lt}
 use lib.ListN.{length, get_or, length-set}
 use lib.Seq.{get_or-set_other, ext_get_or}
 use borrow.Author.Tests.{lt-ltb, eqb-true}
-use Rattle.laws.specs.Table.{some, true_false}
+use Rattle.laws.specs.Table.{true_false}
 use Rattle.book.specs.Format.{TYPE}
 use Rattle.book.specs.Read.{kind_at, total_at, end_at, alike, repeats, State, on, step, done, is_unnamed, loose, records, start, sized, reading}
 use Rattle.book.specs.Ready.{Framed}

@@ -11,7 +11,7 @@ use lib.Dec.{T, eqb}
 use borrow.Author.Tests.{eqb-false, lt-ltb, eq-eqb}
 use Rattle.laws.specs.Table.{pick}
 use Rattle.book.specs.Format.{word_at, in_range}
-use Rattle.book.specs.Read.{total_at, role_at, field_at, names, Verdict, good, bad, once, refer, judge, fields}
+use Rattle.book.specs.Read.{total_at, role_at, field_at, Verdict, good, bad, once, refer, judge, fields}
 use Rattle.book.specs.Index.{single}
 use Rattle.book.specs.Valid.{Uses}
 use Rattle.book.specs.declared.fault.Fault.TheVariants.{Number}

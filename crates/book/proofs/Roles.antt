@@ -8,8 +8,8 @@ use native.Mathlib.Nat.{mul-le-mul_right, mul-add-mod_self_right, mod-eq_of_lt}
 use native.Mathlib.Omega.{arith}
 use borrow.Author.Tests.{lt-ltb, le-ltb, le-leb, ne_eqb}
 use lib.Dec.{T, eqb, ltb, leb, ltb→lt, leb→le}
-use lib.ListN.{length, get_or}
-use Rattle.laws.specs.Table.{pick, both, below, both_left, both_right}
+use lib.ListN.{get_or}
+use Rattle.laws.specs.Table.{pick, both, both_left, both_right}
 use Rattle.book.specs.Format.{word_at, row_of, layout_row, layout_of, role_of, total_of, in_range, EXPRESSION, FUNCTION, END}
 use Rattle.book.proofs.Layouts.{each_row}
 use Rattle.book.specs.Read.{count_in, count_at, total_at, end_at, role_at, field_at, names}

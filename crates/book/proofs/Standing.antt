@@ -10,7 +10,7 @@ use lib.ListN.{get_or}
 use Rattle.laws.specs.Table.{pick, below}
 use Rattle.book.specs.Format.{word_at, EXPRESSION, FUNCTION, COUNT, END, FN, row_of, in_range}
 use Rattle.book.specs.Read.{kind_at}
-use Rattle.book.specs.Index.{mark, kind, field, Begins, Lies}
+use Rattle.book.specs.Index.{mark, field, Begins, Lies}
 use Rattle.book.specs.Stands.{Stands}
 use Rattle.book.specs.Tree.{maker, tree}
 use Rattle.book.proofs.Layouts.{kind_marks}

@@ -27,7 +27,7 @@ use Rattle.named.specs.declared.node.Filled.{Filled}
 use Rattle.named.specs.declared.node.Filled.TheVariants as fillings
 use Rattle.named.specs.Combinators.{unit}
 use Rattle.named.proofs.Pens.{then, halt, all_then, all_halt}
-use Rattle.scope_bindings.specs.Scope.{bound, scope_of, ScopeStands, of_pattern, Roots, Inserts}
+use Rattle.scope_bindings.specs.Scope.{scope_of, ScopeStands, of_pattern, Roots, Inserts}
 use Rattle.scope_bindings.specs.declared.ScopeBindings.{ScopeBindings}
 use Rattle.scope_bindings.proofs.Scopes.{bound_pattern, scope_count, scope_root, scope_insert, insert_stands}
 use Rattle.recipes.specs.Calls as calls

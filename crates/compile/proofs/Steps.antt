@@ -11,11 +11,11 @@ use borrow.Author.Tests.{lt-ltb, le-ltb}
 use lib.ListN.{length, take, set}
 use lib.Seq.{take-suc-set}
 use Rattle.book.specs.Faults.{refusal}
-use Rattle.book.specs.Tree.{Pat, group}
+use Rattle.book.specs.Tree.{Pat}
 use Rattle.book.specs.declared.fault.Fault.TheVariants.{Bindings}
 use Rattle.book.specs.declared.fault.Refusal.{Refusal}
 use Rattle.book.proofs.Built.{group_next, group_none}
-use Rattle.named.specs.Trace.{Run, pure, bind, stop, bindings}
+use Rattle.named.specs.Trace.{Run, pure, bind, bindings}
 use Rattle.named.specs.Draws.{Done, Fills}
 use Rattle.named.specs.declared.node.Stored.{Stored}
 use Rattle.named.specs.declared.node.Stored.TheVariants as answers

@@ -5,7 +5,7 @@ use mathlib.Core.Bool.{Bool}
 use mathlib.Core.List.{List, [], ◌∷◌}
 use mathlib.Core.Path.{◌≡◌, refl, sym, ap, subst, ◌∙◌}
 use native.Mathlib.Omega.{arith}
-use lib.ListN.{length, replicate, length-replicate}
+use lib.ListN.{length, length-replicate}
 use Rattle.book.specs.Format.{EXPRESSION}
 use Rattle.book.specs.Read.{read_of, index_of}
 use Rattle.book.specs.Stands.{Stands}
@@ -14,7 +14,7 @@ use Rattle.book.specs.declared.fault.ReadAnswer.{ReadAnswer}
 use Rattle.book.specs.declared.fault.ReadAnswer.TheVariants as reads
 use Rattle.book.specs.declared.fault.Refusal.{Refusal}
 use Rattle.book.proofs.Established.{answer_valid}
-use Rattle.named.specs.Cut.{made, refused, cut, room, image}
+use Rattle.named.specs.Cut.{refused, cut, room, image}
 use Rattle.named.specs.Draws.{Fate, Done}
 use Rattle.named.specs.declared.node.Stored.{Stored}
 use Rattle.named.specs.declared.node.Stored.TheVariants as stores

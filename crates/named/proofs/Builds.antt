@@ -10,7 +10,6 @@ use lib.Seq.{take-nil, drop-cons, drop-length, take-take, drop-drop}
 use Rattle.laws.specs.Rows.{map_length, map_take, map_drop}
 use Rattle.array.specs.Split.{split_of}
 use Rattle.array.specs.Path.{path}
-use Rattle.array.specs.Row.{row}
 use Rattle.array.proofs.Paths.{path_one, path_left, path_right}
 use Rattle.array.proofs.Rows.{row_none, row_one, row_step}
 use Rattle.named.specs.Trace.{pure, bind, emit}

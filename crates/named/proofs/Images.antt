@@ -9,7 +9,7 @@ use lib.ListN.{length, drop, replicate, length-replicate}
 use lib.Seq.{sets-eq, drop-length}
 use Rattle.book.specs.declared.fault.Refusal.{Refusal}
 use Rattle.named.specs.Trace.{Node, Trace, done, stopped, store, Run}
-use Rattle.named.specs.Cut.{made, refused, after, cut, room, encode, image}
+use Rattle.named.specs.Cut.{made, refused, cut, room, encode, image}
 use Rattle.named.specs.Draws.{stored, comes, Gives, Stops}
 use Rattle.named.proofs.Runs.{after_made}
 

@@ -1,6 +1,6 @@
 -- Laws of pens and of answers: how a function's contract follows from its callees'.
 -- Assumes nothing.
-use Prim.Native.Nat.{ℕ, zero, suc, ◌+◌, ◌*◌, ◌-◌, ◌/◌, ◌%◌, min, ◌≤◌, ◌<◌}
+use Prim.Native.Nat.{ℕ, suc, ◌+◌, ◌*◌, ◌-◌, ◌/◌, ◌%◌, min, ◌≤◌, ◌<◌}
 use mathlib.Core.Bool.{Bool, true, false}
 use mathlib.Core.Path.{◌≡◌, refl, sym, ap, ◌∙◌}
 use mathlib.Core.List.{List, [], ◌∷◌, ◌++◌}
@@ -8,11 +8,11 @@ use native.Mathlib.Omega.{arith}
 use native.Mathlib.Nat.{add-zero}
 use native.Mathlib.Numerals.{towards_suc}
 use lib.ListN.{length, length-append, set, length-set}
-use lib.Seq.{sets, length-sets}
+use lib.Seq.{length-sets}
 use Rattle.book.specs.Faults.{refusal}
 use Rattle.book.specs.declared.fault.Refusal.{Refusal}
 use Rattle.book.specs.declared.fault.Fault.TheVariants.{Room}
-use Rattle.named.specs.Trace.{Node, done, Run, pure, bind, emit, Stop, stop}
+use Rattle.named.specs.Trace.{Node, Run, pure, bind, emit, Stop, stop}
 use Rattle.named.specs.Cut.{Out, made, refused, after, cut, room, encode, fault_of}
 use Rattle.named.specs.Draws.{stored, comes, Gives, Stops, Fate, Done, FateAll, Fills, Draws, Opens, Closes}
 use Rattle.named.specs.declared.node.Pen.{Pen}

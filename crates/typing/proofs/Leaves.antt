@@ -10,7 +10,7 @@ use borrow.Author.Tests.{ne_eqb}
 use lib.Dec.{eqb}
 use lib.ListN.{length, get_or}
 use Rattle.laws.specs.Table.{pick}
-use Rattle.simplicity.specs.Types.{Ty, same}
+use Rattle.simplicity.specs.Types.{same}
 use Rattle.book.specs.Faults.{refusal}
 use Rattle.book.specs.Format.{TYPE, PATTERN, EXPRESSION, FUNCTION, SA, EV, FN}
 use Rattle.book.specs.Index.{mark, field}

@@ -1,17 +1,10 @@
 -- `fits` and `fits_row` meet their contracts: by the pattern's mark, and what is marked fits; each element before k fits at its place.
 -- Assumes nothing.
-use Prim.Native.Nat.{ℕ, ◌+◌, ◌*◌, ◌-◌, ◌<◌}
-use mathlib.Core.Path.{refl, sym, ◌∙◌}
-use native.Mathlib.Omega.{arith}
-use borrow.Author.Tests.{not-true, not-false}
+use Prim.Native.Nat.{◌+◌, ◌*◌, ◌-◌}
 use Rattle.book.specs.Index.{field}
 use Rattle.book.specs.Tree.{type_of, pattern_of}
-use Rattle.book.proofs.Standing.{stands_begins, stands_few}
-use Rattle.pattern.proofs.Records.{row_count, row_lies, row_part}
 use Rattle.binders.specs.Binders.{fits}
-use Rattle.shapes.proofs.Same.{gives_stands}
-use Rattle.binders.proofs.Fitting.{Fitting, fitted_other, fitted_known, fitted_empty, fitted_marked, fitting_none, fitting_all, fitting_nowhere, fitting_not, fitting_next}
-use borrow.Author.Rules.{rules}
+use Rattle.binders.proofs.Fitting.{Fitting}
 use Rattle.binders.proofs.+fitting.Given as goal
 
 abbrev pub decreases-fits : goal.decreases-fits

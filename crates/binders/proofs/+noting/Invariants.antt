@@ -1,19 +1,11 @@
 -- `note_all` and `note_row` meet their contracts: by the pattern's mark; each name of the elements before k was met.
 -- Assumes nothing.
-use Prim.Native.Nat.{ℕ, ◌+◌, ◌*◌, ◌-◌, ◌<◌}
-use mathlib.Core.Logic.{⊎_elim}
-use mathlib.Core.Path.{refl, sym, ◌∙◌}
-use native.Mathlib.Omega.{arith}
-use lib.ListN.{length-set}
-use borrow.Author.Rules.{rules}
+use Prim.Native.Nat.{◌+◌, ◌*◌, ◌-◌}
 use Rattle.book.specs.Index.{field}
 use Rattle.book.specs.Tree.{pattern_of}
-use Rattle.book.proofs.Standing.{stands_begins}
-use Rattle.pattern.proofs.Records.{name_lies, row_count, row_lies, row_part}
 use Rattle.binders.specs.Binders.{names}
 use Rattle.binders.specs.Memos.{Nameless}
-use Rattle.binders.proofs.Names.{names_row_lem, names_one, names_none}
-use Rattle.binders.proofs.Tallies.{nameless_more, nameless_fits, notes_none, Meets, meets_none, meets_named, meets_nameless, meets_twice, meets_more, meets_same}
+use Rattle.binders.proofs.Tallies.{Meets}
 use Rattle.binders.proofs.+noting.Given as goal
 
 abbrev pub decreases-note_all : goal.decreases-note_all

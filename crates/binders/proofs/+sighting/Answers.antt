@@ -1,18 +1,13 @@
 -- `type_in` and `type_in_row` meet their contracts: by the pattern's mark; each element before k has not the name, and fits the type at its place.
 -- Assumes nothing.
-use Prim.Native.Nat.{ℕ, ◌+◌, ◌*◌, ◌-◌, ◌<◌}
 use mathlib.Core.Path.{refl, sym, ◌∙◌}
 use native.Mathlib.Omega.{arith}
 use lib.ListN.{length-set}
 use borrow.Author.Rules.{rules}
-use borrow.Author.Tests.{not-true}
-use Rattle.book.specs.Index.{field}
-use Rattle.book.specs.Tree.{pattern_of}
 use Rattle.book.proofs.Standing.{stands_begins}
-use Rattle.pattern.specs.Seeks.{Memo}
 use Rattle.pattern.proofs.Memos.{memo_fits}
 use Rattle.pattern.proofs.Records.{name_lies, row_count, row_lies, row_most, row_part}
-use Rattle.binders.proofs.Sights.{Skips, binds_element, skips_none, skips_element, sights_known, sights_row, sights_name, sights_other, sights_ignored, element_none, element_found}
+use Rattle.binders.proofs.Sights.{binds_element, skips_none, skips_element, sights_known, sights_row, sights_name, sights_other, sights_ignored, element_none, element_found}
 use Rattle.binders.proofs.+sighting.Goals as goal
 
 pub type_in-bounds-missing-p : goal.type_in-bounds-missing-p

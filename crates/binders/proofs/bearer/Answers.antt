@@ -1,12 +1,9 @@
 -- `bearer` meets its contract: of the elements before k none bears names, or one alone.
 -- Assumes nothing.
-use Prim.Native.Nat.{◌-◌}
-use mathlib.Core.Logic.{⊎_elim}
 use mathlib.Core.Path.{refl}
-use borrow.Author.Rules.{rules}
 use Rattle.pattern.proofs.Records.{row_count, row_lies, row_part}
 use Rattle.binders.proofs.Tallies.{nameless_fits}
-use Rattle.binders.proofs.Bearing.{Bearing, bearing_none, bearing_all, bearing_same, bearing_first, bears_self}
+use Rattle.binders.proofs.Bearing.{bearing_none, bearing_all, bearing_same, bearing_first, bears_self}
 use Rattle.binders.proofs.bearer.Goals as goal
 use Rattle.binders.proofs.bearer.Goals.{then-nameless-part-ne1+else-only, else-nameless-part-ne1}
 

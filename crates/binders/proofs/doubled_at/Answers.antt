@@ -1,6 +1,5 @@
 -- `doubled_at` meets its contract: by the record's mark.
 -- Assumes nothing.
-use borrow.Author.Rules.{rules}
 use mathlib.Core.Path.{sym, ◌∙◌}
 use Rattle.book.proofs.Standing.{stands_begins}
 use Rattle.binders.proofs.Tallies.{nameless_fits}

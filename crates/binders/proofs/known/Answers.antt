@@ -1,6 +1,5 @@
 -- `known` meets its contract: the pair's bit in its word, if there is one.
 -- Assumes nothing.
-use borrow.Author.Rules.{rules}
 use Rattle.binders.proofs.Bits.{marked_beyond, marked_bit}
 use Rattle.binders.proofs.known.Goals as goal
 

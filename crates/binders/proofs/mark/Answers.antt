@@ -3,7 +3,6 @@
 use mathlib.Core.Path.{sym, ◌∙◌}
 use native.Mathlib.Omega.{arith}
 use Rattle.binders.proofs.Bits.{one_moved, marks_old, marks_new, mark_fits}
-use borrow.Author.Rules.{rules}
 use Rattle.binders.proofs.mark.Goals as goal
 
 pub returns-then-known : goal.returns-then-known

@@ -2,10 +2,8 @@
 -- Assumes nothing.
 use mathlib.Core.Path.{refl, sym, ◌∙◌}
 use native.Mathlib.Omega.{arith}
-use borrow.Author.Rules.{rules}
-use Rattle.pattern.specs.Seeks.{Memo}
 use Rattle.pattern.proofs.Memos.{memo_none}
-use Rattle.binders.proofs.Scopes.{Older, older_none, older_all, older_next, older_found}
+use Rattle.binders.proofs.Scopes.{older_none, older_all, older_next, older_found}
 use Rattle.binders.proofs.newest_type.Goals as goal
 
 pub loop-at-init : goal.loop-at-init

@@ -3,18 +3,11 @@
 use Prim.Native.Nat.{◌+◌, ◌-◌}
 use mathlib.Core.Bool.{true}
 use mathlib.Core.List.{[], ◌∷◌}
-use mathlib.Core.Logic.{⊎_elim}
-use mathlib.Core.Path.{refl, sym, ◌∙◌}
-use native.Mathlib.Omega.{arith}
-use borrow.Author.Rules.{rules}
 use Rattle.book.specs.Index.{field}
 use Rattle.book.specs.Tree.{fun_of}
-use Rattle.book.proofs.Standing.{stands_few}
 use Rattle.pattern.specs.Find.{params_of}
-use Rattle.pattern.proofs.Records.{params_count, params_lie}
 use Rattle.binders.specs.Binders.{param_names}
-use Rattle.binders.proofs.Names.{names_params}
-use Rattle.binders.proofs.Tallies.{met_next, met_fresh, notes_twice, notes_new_all, Meets, meets_none, meets_named, meets_twice, meets_more, meets_same}
+use Rattle.binders.proofs.Tallies.{Meets}
 use Rattle.binders.proofs.params_repeat.Given as goal
 
 abbrev pub invariant-loop-k : goal.invariant-loop-k

@@ -1,14 +1,10 @@
 -- `type_of_param` meets its contract: each parameter before k has another name.
 -- Assumes nothing.
 use Prim.Native.Nat.{◌-◌}
-use mathlib.Core.Path.{refl}
-use borrow.Author.Rules.{rules}
 use Rattle.book.specs.Index.{field}
 use Rattle.book.specs.Tree.{name, fun_of}
 use Rattle.pattern.specs.Find.{params_pattern, params_of}
-use Rattle.pattern.proofs.Records.{params_count, params_lie}
 use Rattle.binders.proofs.Sights.{Skips}
-use Rattle.binders.proofs.Scopes.{type_lies, params_none, params_all, params_next, params_found}
 use Rattle.binders.proofs.type_of_param.Given as goal
 
 abbrev pub invariant-loop-k : goal.invariant-loop-k

@@ -1,7 +1,6 @@
 -- `word_of` meets its contract: the pattern's words have a bit for the type, or have none.
 -- Assumes nothing.
 use native.Mathlib.Omega.{arith}
-use borrow.Author.Rules.{rules}
 use Rattle.binders.proofs.Bits.{width_most, width_fits, word_none, word_some}
 use Rattle.binders.proofs.word_of.Goals as goal
 

@@ -3,7 +3,6 @@
 use mathlib.Core.Path.{sym, ◌∙◌}
 use lib.ListN.{length}
 use Rattle.compile.proofs.Wholes.{some_records, root_stands_in, clear_length, clear_again, whole_read, whole_refused}
-use borrow.Author.Rules.{rules}
 use Rattle.compile.proofs.lower.Goals as goal
 
 pub overflow_sub-n : goal.overflow_sub-n

@@ -1,7 +1,6 @@
 -- `lower_root` meets its contract: the root's nodes on a clear table, or a table that is cleared again.
 -- Assumes nothing.
 use Rattle.compile.proofs.Wholes.{root_fits, root_made, root_refused}
-use borrow.Author.Rules.{rules}
 use Rattle.compile.proofs.lower_root.Goals as goal
 
 pub expression-requires : goal.expression-requires

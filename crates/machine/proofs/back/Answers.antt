@@ -1,7 +1,6 @@
 -- `back` meets its contract: the run is done, or a frame is left.
 -- Assumes nothing.
 use Rattle.machine.proofs.Turns.{back_done}
-use borrow.Author.Rules.{rules}
 use Rattle.machine.proofs.back.Goals as goal
 
 pub returns-then-s-eq0 : goal.returns-then-s-eq0

@@ -1,7 +1,6 @@
 -- `back_kept` meets its contract.
 -- Assumes nothing.
 use Rattle.machine.proofs.Turns.{backs_kept, backs_full}
-use borrow.Author.Rules.{rules}
 use Rattle.machine.proofs.back_kept.Goals as goal
 
 pub returns-then-p : goal.returns-then-p

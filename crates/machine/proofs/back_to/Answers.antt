@@ -2,7 +2,6 @@
 -- Assumes nothing.
 use Rattle.machine.proofs.Turns.{handed_kept}
 use Rattle.machine.proofs.Backs.{back_skip, back_second, back_beside, back_lefted, back_righted, back_paired}
-use borrow.Author.Rules.{rules}
 use Rattle.machine.proofs.back_to.Goals as goal
 
 pub returns-in-0 : goal.returns-in-0

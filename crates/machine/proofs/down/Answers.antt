@@ -1,7 +1,6 @@
 -- `down` meets its contract.
 -- Assumes nothing.
 use Rattle.machine.proofs.Turns.{downed}
-use borrow.Author.Rules.{rules}
 use Rattle.machine.proofs.down.Goals as goal
 
 pub returns : goal.returns

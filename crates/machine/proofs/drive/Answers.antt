@@ -1,8 +1,6 @@
 -- `drive` meets its contract: turns until the run has ended.
 -- Assumes nothing.
-use Rattle.machine.proofs.Turns.{Going, left, left_less, going_none, going_more, going_stopped}
-use Rattle.nodes.specs.Given.{text, given}
-use Rattle.machine.specs.Machine.{stack}
+use Rattle.machine.proofs.Turns.{left_less, going_none, going_more, going_stopped}
 use native.Mathlib.Omega.{arith}
 use Rattle.machine.proofs.drive.Goals as goal
 

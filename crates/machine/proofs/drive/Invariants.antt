@@ -1,9 +1,8 @@
 -- `drive` meets its contract: turns until the run has ended.
 -- Assumes nothing.
-use Rattle.machine.proofs.Turns.{Going, left, left_less, going_none, going_more, going_stopped}
+use Rattle.machine.proofs.Turns.{Going, left}
 use Rattle.nodes.specs.Given.{text, given}
 use Rattle.machine.specs.Machine.{stack}
-use native.Mathlib.Omega.{arith}
 use Rattle.machine.proofs.drive.Given as goal
 
 abbrev pub invariant-loop-s : goal.invariant-loop-s

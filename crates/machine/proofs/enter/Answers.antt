@@ -2,7 +2,7 @@
 -- Assumes nothing.
 use mathlib.Core.Path.{sym, ap, ◌∙◌}
 use Rattle.nodes.specs.Given.{cell_of}
-use mathlib.Core.Logic.{inl, inr, ⊎_elim}
+use mathlib.Core.Logic.{inl, inr}
 use Rattle.machine.proofs.Turns.{turned_answers, turned_handed, turned_down, turned_steep}
 use Rattle.machine.proofs.Ways.{range_part, range_case, range_none, kind_iden, kind_unit, kind_injl, kind_injr, kind_comp, kind_pair, kind_fail, kind_witness, kind_scribe, kind_jet, kind_none}
 use native.Mathlib.Omega.{arith}

@@ -3,7 +3,6 @@
 use mathlib.Core.Path.{sym, ◌∙◌}
 use Rattle.machine.proofs.Turns.{turned_answers, turned_entered}
 use Rattle.machine.proofs.Ways.{branch_other, branch_none, branch_left, branch_right, branch_hidden_left, branch_hidden_right}
-use borrow.Author.Rules.{rules}
 use Rattle.machine.proofs.enter_case.Goals as goal
 
 pub returns-then-kind_at-ne-PAIR : goal.returns-then-kind_at-ne-PAIR

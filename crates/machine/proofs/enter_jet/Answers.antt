@@ -2,7 +2,6 @@
 -- Assumes nothing.
 use mathlib.Core.Path.{refl}
 use Rattle.machine.proofs.Backs.{jet_made, jet_failed, jet_stuck, jet_unknown}
-use borrow.Author.Rules.{rules}
 use Rattle.machine.proofs.enter_jet.Goals as goal
 
 pub returns-in-Made : goal.returns-in-Made

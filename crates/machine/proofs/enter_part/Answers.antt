@@ -3,7 +3,6 @@
 use mathlib.Core.Path.{sym, ◌∙◌}
 use Rattle.machine.proofs.Turns.{turned_answers, turned_down}
 use Rattle.machine.proofs.Ways.{six, kind_take, kind_drop, kind_part}
-use borrow.Author.Rules.{rules}
 use Rattle.machine.proofs.enter_part.Goals as goal
 
 pub returns-then-kind_at-ne-PAIR : goal.returns-then-kind_at-ne-PAIR

@@ -2,7 +2,6 @@
 -- Assumes nothing.
 use Rattle.machine.proofs.Turns.{answers_as}
 use Rattle.machine.proofs.Backs.{witness_absent, witness_given, witness_refused}
-use borrow.Author.Rules.{rules}
 use Rattle.machine.proofs.enter_witness.Goals as goal
 
 pub returns-then-at-witnesses : goal.returns-then-at-witnesses

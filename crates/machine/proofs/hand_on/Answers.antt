@@ -1,7 +1,6 @@
 -- `hand_on` meets its contract.
 -- Assumes nothing.
 use Rattle.machine.proofs.Turns.{entered_full, entered_kept}
-use borrow.Author.Rules.{rules}
 use Rattle.machine.proofs.hand_on.Goals as goal
 
 pub returns-then-p : goal.returns-then-p

@@ -1,6 +1,5 @@
 -- `turn` meets its contract.
 -- Assumes nothing.
-use borrow.Author.Rules.{rules}
 use Rattle.machine.proofs.turn.Goals as goal
 
 pub returns : goal.returns

@@ -1,15 +1,10 @@
 -- `get_param` meets its contract: each parameter before k has another name.
 -- Assumes nothing.
 use Prim.Native.Nat.{◌-◌}
-use mathlib.Core.Path.{◌∙◌}
-use native.Mathlib.Omega.{arith}
 use Rattle.book.specs.Index.{field}
 use Rattle.book.specs.Tree.{name, fun_of}
 use Rattle.pattern.specs.Find.{find, params_pattern, params_of}
-use Rattle.pattern.proofs.Selectors.{absent, found_here, seeks_absent, seeks_found}
-use Rattle.pattern.proofs.Passes.{Passes, passes_none, passes_kept, passes_all, passes_next, passes_found, name_is, name_not}
-use Rattle.pattern.proofs.Records.{params_count, params_most, params_lie, finds_params}
-use borrow.Author.Rules.{rules}
+use Rattle.pattern.proofs.Passes.{Passes}
 use Rattle.pattern.proofs.get_param.Given as goal
 
 abbrev pub invariant-loop-k : goal.invariant-loop-k

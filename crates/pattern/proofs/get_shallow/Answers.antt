@@ -1,7 +1,6 @@
 -- `get_shallow` meets its contract: its two ways promise what it does.
 -- Assumes nothing.
 use Rattle.book.proofs.Standing.{stands_begins}
-use borrow.Author.Rules.{rules}
 use Rattle.pattern.proofs.get_shallow.Goals as goal
 
 pub mark_at-requires : goal.mark_at-requires

@@ -4,7 +4,6 @@ use mathlib.Core.Path.{refl}
 use Rattle.book.proofs.Standing.{stands_begins}
 use Rattle.pattern.proofs.Selectors.{nears_missing, nears_nested, nears_found}
 use Rattle.pattern.proofs.Records.{name_lies, name_found, name_missing, all_missing}
-use borrow.Author.Rules.{rules}
 use Rattle.pattern.proofs.get_single.Goals as goal
 
 pub mark_at-mark-requires : goal.mark_at-mark-requires

@@ -1,7 +1,6 @@
 -- `answer_of` meets its contract.
 -- Assumes nothing.
 use Rattle.run.proofs.Ends.{answers_value, answers_failed, answers_refused}
-use borrow.Author.Rules.{rules}
 use Rattle.run.proofs.answer_of.Goals as goal
 
 pub returns-then-s-eq2 : goal.returns-then-s-eq2

@@ -1,7 +1,6 @@
 -- `run_machine` meets its contract.
 -- Assumes nothing.
 use Rattle.run.proofs.Ends.{machine_starts}
-use borrow.Author.Rules.{rules}
 use Rattle.run.proofs.run_machine.Goals as goal
 
 pub returns : goal.returns

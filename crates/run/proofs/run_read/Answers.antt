@@ -2,7 +2,6 @@
 -- Assumes nothing.
 use Rattle.run.proofs.Ends.{well_counts, read_well, read_bad}
 use Rattle.nodes.specs.Given.{text, given}
-use borrow.Author.Rules.{rules}
 use Rattle.run.proofs.run_read.Goals as goal
 
 pub run_table-requires : goal.run_table-requires

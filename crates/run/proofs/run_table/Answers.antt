@@ -3,7 +3,6 @@
 use mathlib.Core.Path.{◌∙◌}
 use Rattle.run.proofs.Ends.{table_full, table_ran}
 use Rattle.nodes.specs.Given.{text, given}
-use borrow.Author.Rules.{rules}
 use Rattle.run.proofs.run_table.Goals as goal
 
 pub returns-then-p : goal.returns-then-p

@@ -1,11 +1,7 @@
 -- `copied` meets its contract: the first k entries are those of the row that is lent.
 -- Assumes nothing.
-use mathlib.Core.Path.{ap}
 use Prim.Native.Nat.{◌-◌}
-use native.Mathlib.Omega.{arith}
-use Rattle.scope_bindings.specs.Scope.{lent}
-use Rattle.scope_bindings.proofs.Scopes.{Copies, copies_none, copies_next, copies_all}
-use borrow.Author.Rules.{rules}
+use Rattle.scope_bindings.proofs.Scopes.{Copies}
 use Rattle.scope_bindings.proofs.copied.Given as goal
 
 abbrev pub invariant-loop-k : goal.invariant-loop-k

@@ -1,10 +1,6 @@
 -- `drops` meets its contract: one drop more than before.
 -- Assumes nothing.
-use Prim.Native.Nat.{◌≤◌, ◌-◌}
 use native.Mathlib.Omega.{arith}
-use lib.ListN.{replicate}
-use Rattle.named.specs.Combinators.{DROP, wraps}
-use Rattle.named.specs.Draws.{Draws}
 use Rattle.scope_bindings.proofs.Reaches.{drops_none, drops_next, drops_all}
 use borrow.Author.Rules.{rules}
 use Rattle.scope_bindings.proofs.drops.Goals as goal

@@ -3,7 +3,6 @@
 use mathlib.Core.Path.{sym, ◌∙◌}
 use Rattle.pattern.proofs.Memos.{searched_none, searched_on}
 use Rattle.scope_bindings.proofs.Scopes.{bound_pattern, bound_function, find_ignored, binds_begins, binds_function, binds_pattern}
-use borrow.Author.Rules.{rules}
 use Rattle.scope_bindings.proofs.get_bound.Goals as goal
 
 pub returns-then-pattern-eq-IGNORED : goal.returns-then-pattern-eq-IGNORED

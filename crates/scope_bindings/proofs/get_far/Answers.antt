@@ -2,7 +2,6 @@
 -- Assumes nothing.
 use mathlib.Core.Path.{refl}
 use Rattle.pattern.proofs.Memos.{memo_none}
-use borrow.Author.Rules.{rules}
 use Rattle.scope_bindings.proofs.get_far.Goals as goal
 
 pub get_newest-requires : goal.get_newest-requires

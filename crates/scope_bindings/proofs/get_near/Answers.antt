@@ -3,8 +3,7 @@
 use mathlib.Core.Path.{refl, ◌∙◌}
 use native.Mathlib.Omega.{arith}
 use Rattle.pattern.proofs.Selectors.{seeks_absent, seeks_found, near_missing, near_nested, near_drawn}
-use Rattle.scope_bindings.specs.Scope.{lookup, newest}
-use Rattle.scope_bindings.proofs.Reaches.{Misses, misses_whole, misses_kept, misses_all, misses_far, misses_next, misses_found}
+use Rattle.scope_bindings.proofs.Reaches.{misses_whole, misses_kept, misses_all, misses_far, misses_next, misses_found}
 use borrow.Author.Rules.{rules}
 use Rattle.scope_bindings.proofs.get_near.Goals as goal
 

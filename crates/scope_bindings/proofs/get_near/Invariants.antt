@@ -1,11 +1,7 @@
 -- `get_near` meets its contract: the bindings from `at` on have not the name, and `get_far` goes on from there.
 -- Assumes nothing.
-use mathlib.Core.Path.{refl, ◌∙◌}
-use native.Mathlib.Omega.{arith}
-use Rattle.pattern.proofs.Selectors.{seeks_absent, seeks_found, near_missing, near_nested, near_drawn}
 use Rattle.scope_bindings.specs.Scope.{lookup, newest}
-use Rattle.scope_bindings.proofs.Reaches.{Misses, misses_whole, misses_kept, misses_all, misses_far, misses_next, misses_found}
-use borrow.Author.Rules.{rules}
+use Rattle.scope_bindings.proofs.Reaches.{Misses}
 use Rattle.scope_bindings.proofs.get_near.Given as goal
 
 abbrev pub invariant-loop-at : goal.invariant-loop-at

@@ -2,11 +2,9 @@
 -- Assumes nothing.
 use mathlib.Core.Path.{refl, sym, ◌∙◌}
 use native.Mathlib.Omega.{arith}
-use Rattle.pattern.specs.Seeks.{Memo}
 use Rattle.pattern.proofs.Memos.{searched_on}
 use Rattle.pattern.proofs.Selectors.{seeks_absent, seeks_found, sought_missing, sought_drawn}
-use Rattle.scope_bindings.specs.Scope.{lookup_below}
-use Rattle.scope_bindings.proofs.Reaches.{Misses, misses_none, misses_kept, misses_all, misses_next, misses_found}
+use Rattle.scope_bindings.proofs.Reaches.{misses_none, misses_kept, misses_all, misses_next, misses_found}
 use borrow.Author.Rules.{rules}
 use Rattle.scope_bindings.proofs.get_newest.Goals as goal
 

@@ -1,13 +1,8 @@
 -- `get_newest` meets its contract: the bindings from `at` on have not the name.
 -- Assumes nothing.
-use mathlib.Core.Path.{refl, sym, ◌∙◌}
-use native.Mathlib.Omega.{arith}
 use Rattle.pattern.specs.Seeks.{Memo}
-use Rattle.pattern.proofs.Memos.{searched_on}
-use Rattle.pattern.proofs.Selectors.{seeks_absent, seeks_found, sought_missing, sought_drawn}
 use Rattle.scope_bindings.specs.Scope.{lookup_below}
-use Rattle.scope_bindings.proofs.Reaches.{Misses, misses_none, misses_kept, misses_all, misses_next, misses_found}
-use borrow.Author.Rules.{rules}
+use Rattle.scope_bindings.proofs.Reaches.{Misses}
 use Rattle.scope_bindings.proofs.get_newest.Given as goal
 
 abbrev pub invariant-loop-at : goal.invariant-loop-at

@@ -1,7 +1,6 @@
 -- `reach` meets its contract: a take unless no binding is older, and then the drops.
 -- Assumes nothing.
 use Rattle.scope_bindings.proofs.Reaches.{reach_root, reach_other}
-use borrow.Author.Rules.{rules}
 use Rattle.scope_bindings.proofs.reach.Goals as goal
 
 pub returns-then-older-eq0 : goal.returns-then-older-eq0

@@ -1,7 +1,6 @@
 -- `check` meets its contract: READ's refusal, or what is judged of the records.
 -- Assumes nothing.
 use Rattle.typing.proofs.Orders.{book_valid, book_tiles, check_passed, check_refused, read_refused}
-use borrow.Author.Rules.{rules}
 use Rattle.typing.proofs.check.Goals as goal
 
 pub records-requires : goal.records-requires

@@ -6,7 +6,6 @@ use Rattle.typing.proofs.Scopes.{stays_rows}
 use Rattle.typing.proofs.Steps.{missing_length}
 use Rattle.typing.proofs.Leaves.{no_enough}
 use Rattle.typing.proofs.Orders.{root_live, root_stands, functions_halt, root_last}
-use borrow.Author.Rules.{rules}
 use Rattle.typing.proofs.expressions.Goals as goal
 
 pub functions-requires : goal.functions-requires

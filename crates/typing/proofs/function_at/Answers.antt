@@ -3,7 +3,6 @@
 use Rattle.book.specs.Format.{FUNCTION}
 use Rattle.typing.proofs.Steps.{missing_length, stays_of, at_once}
 use Rattle.typing.proofs.Orders.{among_begins, stands_as, function_none, function_some}
-use borrow.Author.Rules.{rules}
 use Rattle.typing.proofs.function_at.Goals as goal
 
 pub mark_at-requires : goal.mark_at-requires

@@ -1,13 +1,8 @@
 -- `functions` meets its contract: the functions before r have passed.
 -- Assumes nothing.
 use Prim.Native.Nat.{◌-◌}
-use mathlib.Core.Path.{refl, ◌∙◌}
-use native.Mathlib.Omega.{arith}
 use Rattle.typing.specs.Whole.{in_order, function_at}
-use Rattle.typing.proofs.Scopes.{stays_rows}
-use Rattle.typing.proofs.Steps.{missing_length, Going, going_start, going_next, going_halt, going_end}
-use Rattle.typing.proofs.Orders.{among_of, order_start, order_next, order_none}
-use borrow.Author.Rules.{rules}
+use Rattle.typing.proofs.Steps.{Going}
 use Rattle.typing.proofs.functions.Given as goal
 
 abbrev pub invariant-loop-r : goal.invariant-loop-r

@@ -2,7 +2,6 @@
 -- Assumes nothing.
 use mathlib.Core.Path.{refl}
 use Rattle.typing.proofs.Orders.{values_halt, values_then}
-use borrow.Author.Rules.{rules}
 use Rattle.typing.proofs.records.Goals as goal
 
 pub values-requires : goal.values-requires

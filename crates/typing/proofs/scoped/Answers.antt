@@ -4,7 +4,6 @@ use mathlib.Core.Path.{refl}
 use lib.ListN.{length-replicate}
 use Prim.Native.Nat.{ℕ}
 use Rattle.typing.proofs.Orders.{rows_first, zeros_long}
-use borrow.Author.Rules.{rules}
 use Rattle.typing.proofs.scoped.Goals as goal
 
 pub slice_bounds-expressions-end-2 : goal.slice_bounds-expressions-end-2

@@ -2,7 +2,6 @@
 -- Assumes nothing.
 use Rattle.book.specs.Format.{VALUE}
 use Rattle.typing.proofs.Orders.{among_begins, stands_as, value_none, value_some}
-use borrow.Author.Rules.{rules}
 use Rattle.typing.proofs.value_at.Goals as goal
 
 pub mark_at-requires : goal.mark_at-requires

@@ -1,11 +1,8 @@
 -- `values` meets its contract: the records before r have passed.
 -- Assumes nothing.
 use Prim.Native.Nat.{◌-◌}
-use mathlib.Core.Path.{refl}
-use native.Mathlib.Omega.{arith}
 use Rattle.typing.specs.Whole.{value_at}
-use Rattle.typing.proofs.Orders.{among_of, Passing, passing_start, passing_next, passing_halt, passing_end}
-use borrow.Author.Rules.{rules}
+use Rattle.typing.proofs.Orders.{Passing}
 use Rattle.typing.proofs.values.Given as goal
 
 abbrev pub invariant-loop-r : goal.invariant-loop-r

@@ -1,6 +1,5 @@
 -- `fault::fault_number` meets its contract: in each arm the variant is known.
 -- Assumes nothing.
-use borrow.Author.Rules.{rules}
 use Rattle.book.proofs.fault.fault_number.Goals as goal
 
 pub returns-in-Size : goal.returns-in-Size

@@ -1,6 +1,5 @@
 -- `fault::numbers_of` meets its contract: in each arm the answer is known.
 -- Assumes nothing.
-use borrow.Author.Rules.{rules}
 use mathlib.Core.Path.{sym, ap}
 use Rattle.book.specs.Faults.{numbers_of}
 use Rattle.book.proofs.fault.numbers_of.Goals as goal

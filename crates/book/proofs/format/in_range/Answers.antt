@@ -1,6 +1,5 @@
 -- `format::in_range` meets its contract: in each arm the role's range, and the law `rest` has the default.
 -- Assumes nothing.
-use borrow.Author.Rules.{rules}
 use borrow.Author.Tests.{le-ltb, lt-ltb}
 use mathlib.Core.Path.{sym}
 use mathlib.Core.Bool.{true}

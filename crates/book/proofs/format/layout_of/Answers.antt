@@ -1,13 +1,12 @@
 -- `format::layout_of` meets its contract: in each arm the table computes, and the law `arm` has the ranges.
 -- Assumes nothing.
-use borrow.Author.Rules.{rules}
 use native.Mathlib.Omega.{arith}
 use Prim.Native.Nat.{ℕ, ◌≤◌}
 use native.Mathlib.Decide.{dec_lt}
 use mathlib.Core.Bool.{false}
 use mathlib.Core.Path.{◌≡◌, refl, sym, ap, ◌∙◌}
 use mathlib.Core.List.{List, [], ◌∷◌}
-use mathlib.Core.Logic.{inl, inr, ⊎_elim}
+use mathlib.Core.Logic.{inl, inr}
 use Rattle.laws.specs.Table.{arm, free, among}
 use Rattle.book.specs.Format.{layout_of, layout_row}
 use Rattle.book.proofs.Layouts.{beyond}

@@ -1,6 +1,5 @@
 -- `format::power_in` meets its contract: up to 256 the powers of two are the numbers with one one bit, which antt computes.
 -- Assumes nothing.
-use borrow.Author.Rules.{rules}
 use native.Mathlib.Omega.{arith}
 use Prim.Native.Nat.{ℕ, ◌≤◌, ◌<◌}
 use mathlib.Core.Bool.{Bool, true, false}

@@ -1,6 +1,5 @@
 -- `format::role_of` meets its contract: each way by its tests.
 -- Assumes nothing.
-use borrow.Author.Rules.{rules}
 use borrow.Author.Tests.{le-ltb, lt-ltb}
 use native.Mathlib.Omega.{arith}
 use Prim.Native.Nat.{◌-◌}

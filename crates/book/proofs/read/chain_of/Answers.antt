@@ -1,7 +1,6 @@
 -- `read::chain_of` meets its contract: unit's chain, or the key of a mark and two fields.
 -- Assumes nothing.
 use Rattle.book.proofs.Chains.{begins_none, begins_two, two_within}
-use borrow.Author.Rules.{rules}
 use native.Mathlib.Omega.{arith}
 use Rattle.book.proofs.read.chain_of.Goals as goal
 

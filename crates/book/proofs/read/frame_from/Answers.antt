@@ -6,7 +6,6 @@ use Rattle.book.proofs.Layouts.{small_of}
 use Rattle.book.specs.Format.{Small, layout_of}
 use Rattle.book.specs.Read.{layout_at, end_at}
 use Rattle.book.specs.declared.format.Layout.{Layout}
-use borrow.Author.Rules.{rules}
 use mathlib.Core.Path.{◌≡◌, ap, ◌∙◌}
 use native.Mathlib.Omega.{arith}
 use Rattle.book.proofs.read.frame_from.Goals as goal

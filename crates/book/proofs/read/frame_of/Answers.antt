@@ -3,7 +3,6 @@
 use Rattle.book.specs.Format.{mark_of}
 use Rattle.book.specs.Read.{mark_at}
 use Rattle.book.specs.Ready.{frame_of}
-use borrow.Author.Rules.{rules}
 use borrow.Author.Tests.{le-ltb, lt-ltb, eq-eqb, ne_eqb}
 use mathlib.Core.Path.{sym, ap, ◌∙◌}
 use native.Mathlib.Omega.{arith}

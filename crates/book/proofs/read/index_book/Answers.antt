@@ -4,8 +4,6 @@ use Rattle.book.proofs.Course.{ready_start}
 use Rattle.book.proofs.Going.{sized_is, unsized_answers, records_answer, refusal_answers}
 use Rattle.book.proofs.Joins.{chained_start}
 use Rattle.book.specs.Read.{sized}
-use borrow.Author.Rules.{rules}
-use borrow.Author.Tests.{not-true, not-false}
 use lib.ListN.{length}
 use mathlib.Core.Bool.{true}
 use mathlib.Core.Path.{◌≡◌, sym, ◌∙◌}

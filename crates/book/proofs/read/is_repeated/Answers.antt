@@ -1,9 +1,8 @@
 -- `read::is_repeated` meets its contract: what is left of the chain answers for all earlier records.
 -- Assumes nothing.
 use Rattle.book.proofs.Alikes.{repeats_not}
-use Rattle.book.proofs.Chains.{Walk, walk_start, walk_none, walk_framed, walk_found, walk_falls, walk_on}
+use Rattle.book.proofs.Chains.{walk_start, walk_none, walk_framed, walk_found, walk_falls, walk_on}
 use Prim.Native.Nat.{◌-◌}
-use borrow.Author.Rules.{rules}
 use mathlib.Core.Path.{sym, ◌∙◌}
 use native.Mathlib.Omega.{arith}
 use Rattle.book.proofs.read.is_repeated.Goals as goal

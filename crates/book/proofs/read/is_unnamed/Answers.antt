@@ -2,7 +2,6 @@
 -- Assumes nothing.
 use Rattle.book.proofs.Layouts.{single_in, single_out}
 use Rattle.book.specs.Read.{is_unnamed}
-use borrow.Author.Rules.{rules}
 use borrow.Author.Tests.{eq-eqb, ne_eqb}
 use mathlib.Core.Path.{sym}
 use native.Mathlib.Omega.{arith}

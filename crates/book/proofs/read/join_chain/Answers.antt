@@ -1,7 +1,6 @@
 -- `read::join_chain` meets its contract: no type, or a type and what was the newest before it.
 -- Assumes nothing.
 use Rattle.book.proofs.Joins.{joined_not, joined_type}
-use borrow.Author.Rules.{rules}
 use mathlib.Core.Path.{sym, ◌∙◌}
 use Rattle.book.proofs.read.join_chain.Goals as goal
 

@@ -1,8 +1,6 @@
 -- `read::judge_field` meets its contract: each way by its law.
 -- Assumes nothing.
 use Rattle.book.proofs.Ways.{field_range, field_names, judge_number, judge_plain, judge_name}
-use borrow.Author.Rules.{rules}
-use borrow.Author.Tests.{not-true, not-false}
 use mathlib.Core.Path.{sym, ◌∙◌}
 use Rattle.book.proofs.read.judge_field.Goals as goal
 

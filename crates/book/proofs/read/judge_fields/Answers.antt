@@ -1,13 +1,11 @@
 -- `read::judge_fields` meets its contract: what is left of the fields answers for them all.
 -- Assumes nothing.
-use Prim.Native.Nat.{◌-◌, ◌≤◌}
 use Rattle.book.proofs.Frames.{field_within, role_is, total_at_lem, total_fits}
 use Rattle.book.proofs.Layouts.{small_of}
 use Rattle.book.proofs.Ways.{field_refused, field_passed, fields_end, fields_all}
 use Rattle.book.specs.Format.{Small, layout_of}
-use Rattle.book.specs.Read.{fields, layout_at, total_at}
+use Rattle.book.specs.Read.{layout_at, total_at}
 use borrow.Author.Rules.{rules}
-use lib.ListN.{length}
 use mathlib.Core.Path.{◌≡◌, refl, sym, ap, ◌∙◌}
 use native.Mathlib.Omega.{arith}
 use Rattle.book.proofs.read.judge_fields.Goals as goal

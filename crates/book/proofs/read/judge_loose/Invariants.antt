@@ -1,14 +1,9 @@
 -- `read::judge_loose` meets its contract: what is left of the records answers for them all.
 -- Assumes nothing.
 use Prim.Native.Nat.{ℕ, ◌+◌, ◌-◌, ◌≤◌}
-use Rattle.book.proofs.Endings.{loose_here, loose_on, loose_last, loose_none, loose_all}
-use Rattle.book.proofs.Frames.{mark_within}
 use Rattle.book.specs.Read.{loose, state}
-use borrow.Author.Rules.{rules}
-use lib.ListN.{get_or}
 use mathlib.Core.List.{List}
-use mathlib.Core.Path.{◌≡◌, refl, sym, ◌∙◌}
-use native.Mathlib.Omega.{arith}
+use mathlib.Core.Path.{◌≡◌}
 use Rattle.book.proofs.read.judge_loose.Given as goal
 
 abbrev pub invariant-loop-j : goal.invariant-loop-j

@@ -1,7 +1,6 @@
 -- `read::name_once` meets its contract: each way by its test.
 -- Assumes nothing.
 use Rattle.book.specs.Read.{once}
-use borrow.Author.Rules.{rules}
 use borrow.Author.Tests.{eq-eqb, ne_eqb}
 use Rattle.book.proofs.read.name_once.Goals as goal
 

@@ -2,7 +2,6 @@
 -- Assumes nothing.
 use Rattle.book.proofs.Endings.{settle_bad, settle_good, step_opens, step_bad, step_settles, opens_count, opens_end}
 use Rattle.book.specs.Read.{state}
-use borrow.Author.Rules.{rules}
 use mathlib.Core.Path.{sym, ◌∙◌}
 use Rattle.book.proofs.read.read_record.Goals as goal
 

@@ -1,10 +1,6 @@
 -- `read::read_records` meets its contract: what is left of the book answers for it all.
 -- Assumes nothing.
-use Prim.Native.Nat.{◌-◌}
-use Rattle.book.proofs.Going.{Going, none_more, ended, going_bad, going_further, going_on_lem}
-use Rattle.book.specs.Read.{records, state}
-use borrow.Author.Rules.{rules}
-use lib.ListN.{length}
+use Rattle.book.proofs.Going.{none_more, ended, going_bad, going_further, going_on_lem}
 use mathlib.Core.Path.{refl, sym, ◌∙◌}
 use native.Mathlib.Omega.{arith}
 use Rattle.book.proofs.read.read_records.Goals as goal

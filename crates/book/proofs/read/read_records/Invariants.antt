@@ -1,12 +1,9 @@
 -- `read::read_records` meets its contract: what is left of the book answers for it all.
 -- Assumes nothing.
 use Prim.Native.Nat.{◌-◌}
-use Rattle.book.proofs.Going.{Going, none_more, ended, going_bad, going_further, going_on_lem}
+use Rattle.book.proofs.Going.{Going}
 use Rattle.book.specs.Read.{records, state}
-use borrow.Author.Rules.{rules}
 use lib.ListN.{length}
-use mathlib.Core.Path.{refl, sym, ◌∙◌}
-use native.Mathlib.Omega.{arith}
 use Rattle.book.proofs.read.read_records.Given as goal
 
 abbrev pub invariant-loop-at : goal.invariant-loop-at

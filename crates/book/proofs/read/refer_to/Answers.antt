@@ -3,7 +3,6 @@
 use Rattle.book.proofs.Frames.{mark_within}
 use Rattle.book.proofs.Ways.{refer_late, refer_other, refer_single, refer_free}
 use Rattle.book.proofs.Layouts.{single_in, single_out}
-use borrow.Author.Rules.{rules}
 use lib.ListN.{get_or}
 use mathlib.Core.Path.{sym, ◌∙◌}
 use native.Mathlib.Omega.{arith}

@@ -3,7 +3,6 @@
 use Rattle.book.proofs.Endings.{settle_twice, settle_deep, settle_on}
 use Rattle.book.proofs.Frames.{mark_within}
 use Rattle.book.proofs.Joins.{joins}
-use borrow.Author.Rules.{rules}
 use mathlib.Core.Path.{sym, ◌∙◌}
 use native.Mathlib.Omega.{arith}
 use Rattle.book.proofs.read.settle_record.Goals as goal

@@ -1,7 +1,6 @@
 -- `record::field_at` meets its contract: the field is the word at its place.
 -- Assumes nothing.
 use Rattle.book.specs.Read.{field_at}
-use borrow.Author.Rules.{rules}
 use Rattle.book.proofs.record.field_at.Goals as goal
 
 pub returns : goal.returns

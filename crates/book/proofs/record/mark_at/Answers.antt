@@ -2,7 +2,6 @@
 -- Assumes nothing.
 use Rattle.book.specs.Format.{mark_of}
 use Rattle.book.specs.Read.{mark_at}
-use borrow.Author.Rules.{rules}
 use mathlib.Core.Path.{ap, ◌∙◌}
 use Rattle.book.proofs.record.mark_at.Goals as goal
 

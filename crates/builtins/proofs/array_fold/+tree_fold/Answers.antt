@@ -4,7 +4,6 @@ use native.Mathlib.Omega.{arith}
 use lib.ListN.{length}
 use Rattle.builtins.proofs.Folds.{top_below, top_taken, tree_one, tree_more}
 use borrow.Author.Rules.{rules}
-use Prim.Native.Nat.{ℕ, ◌<◌}
 use Rattle.builtins.proofs.array_fold.+tree_fold.Goals as goal
 
 pub bounds-powers-most : goal.bounds-powers-most

@@ -1,10 +1,5 @@
 -- `tree_fold` meets its contract: the size is a power, or what is left of it is folded first.
 -- Assumes nothing.
-use native.Mathlib.Omega.{arith}
-use lib.ListN.{length}
-use Rattle.builtins.proofs.Folds.{top_below, top_taken, tree_one, tree_more}
-use borrow.Author.Rules.{rules}
-use Prim.Native.Nat.{ℕ, ◌<◌}
 use Rattle.builtins.proofs.array_fold.+tree_fold.Given as goal
 
 abbrev pub decreases-tree_fold : goal.decreases-tree_fold

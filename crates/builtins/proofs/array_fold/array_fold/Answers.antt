@@ -1,11 +1,10 @@
 -- `array_fold` meets its contract: with no room it is refused; else the powers one by one, and then the tree.
 -- Assumes nothing.
 use mathlib.Core.Path.{refl}
-use Prim.Native.Nat.{◌-◌}
 use native.Mathlib.Omega.{arith}
 use Rattle.named.proofs.Sizes.{draw_short}
 use Rattle.builtins.proofs.Counts.{stores_array}
-use Rattle.builtins.proofs.Folds.{Going, going_first, going_next, going_last}
+use Rattle.builtins.proofs.Folds.{going_first, going_next, going_last}
 use borrow.Author.Rules.{rules}
 use Rattle.builtins.proofs.array_fold.array_fold.Goals as goal
 

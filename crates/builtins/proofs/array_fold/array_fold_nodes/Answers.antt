@@ -2,7 +2,6 @@
 -- Assumes nothing.
 use native.Mathlib.Omega.{arith}
 use Rattle.builtins.proofs.Counts.{fold_nodes, counts_fit}
-use borrow.Author.Rules.{rules}
 use Rattle.builtins.proofs.array_fold.array_fold_nodes.Goals as goal
 
 pub overflow_add-result : goal.overflow_add-result

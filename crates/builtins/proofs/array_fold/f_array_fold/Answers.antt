@@ -3,7 +3,6 @@
 use mathlib.Core.Path.{◌∙◌}
 use Rattle.builtins.specs.ArrayFold.{f_array_fold}
 use Rattle.named.proofs.Pens.{draw_then}
-use borrow.Author.Rules.{rules}
 use Rattle.builtins.proofs.array_fold.f_array_fold.Goals as goal
 
 pub shape_of-nodes : goal.shape_of-nodes

@@ -3,7 +3,6 @@
 use native.Mathlib.Omega.{arith}
 use Rattle.builtins.proofs.Hashes.{add_none, add_one, add_more, widths_fewer}
 use borrow.Author.Rules.{rules}
-use Prim.Native.Nat.{ℕ, ◌<◌}
 use Rattle.builtins.proofs.raw_hash.+add_tuple.Goals as goal
 
 pub returns-then-count-eq0 : goal.returns-then-count-eq0

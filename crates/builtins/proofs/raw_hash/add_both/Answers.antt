@@ -3,7 +3,6 @@
 use mathlib.Core.Path.{◌∙◌}
 use Rattle.builtins.specs.RawHash.{add_both}
 use Rattle.named.proofs.Pens.{draw_then}
-use borrow.Author.Rules.{rules}
 use Rattle.builtins.proofs.raw_hash.add_both.Goals as goal
 
 pub shape_of-nodes : goal.shape_of-nodes

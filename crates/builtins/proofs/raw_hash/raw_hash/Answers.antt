@@ -5,7 +5,6 @@ use Rattle.named.proofs.Pens.{draw_then}
 use native.Mathlib.Omega.{arith}
 use Rattle.builtins.proofs.Hashes.{widths_fewer}
 use Rattle.builtins.specs.RawHash.{raw_hash}
-use borrow.Author.Rules.{rules}
 use Rattle.builtins.proofs.raw_hash.raw_hash.Goals as goal
 
 pub add_tuple-adds-requires : goal.add_tuple-adds-requires

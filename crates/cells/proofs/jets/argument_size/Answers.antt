@@ -1,6 +1,6 @@
 -- `argument_size` meets its contract: computed at each of the three jets.
 -- Assumes nothing.
-use Rattle.std.proofs.Common.{◌/◌, arith, rules}
+use Rattle.std.proofs.Common.{◌/◌, arith}
 use lib.Count.{leading_le}
 use Rattle.cells.proofs.Words.{some_arguments, few_zeros, sizes}
 use Rattle.cells.proofs.jets.argument_size.Goals as goal

@@ -1,7 +1,6 @@
 -- `bit_at` meets its contract: the left, the right, or another cell.
 -- Assumes nothing.
 use Rattle.cells.proofs.Words.{bit_left, bit_right, bit_none}
-use Rattle.std.proofs.Common.{rules}
 use Rattle.cells.proofs.jets.bit_at.Goals as goal
 
 pub returns-then-side-eq-LEFT : goal.returns-then-side-eq-LEFT

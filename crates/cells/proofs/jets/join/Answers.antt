@@ -1,6 +1,6 @@
 -- `join` meets its contract: two halves fit in a word of twice their bits.
 -- Assumes nothing.
-use Rattle.std.proofs.Common.{arith, rules}
+use Rattle.std.proofs.Common.{arith}
 use Rattle.cells.proofs.Words.{join_less, join_fits, join_both}
 use Rattle.cells.proofs.jets.join.Goals as goal
 

@@ -1,7 +1,6 @@
 -- `keep_bit` meets its contract: the unit, and then the side.
 -- Assumes nothing.
 use Rattle.cells.proofs.Keepings.{bit_true, bit_false}
-use Rattle.std.proofs.Common.{rules}
 use Rattle.cells.proofs.jets.keep_bit.Goals as goal
 
 pub returns-then-set : goal.returns-then-set

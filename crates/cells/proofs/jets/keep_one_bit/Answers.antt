@@ -1,7 +1,6 @@
 -- `keep_one_bit` meets its contract: a bit.
 -- Assumes nothing.
 use Rattle.cells.proofs.Words.{keep_bits}
-use Rattle.std.proofs.Common.{rules}
 use Rattle.cells.proofs.jets.keep_one_bit.Goals as goal
 
 pub returns : goal.returns

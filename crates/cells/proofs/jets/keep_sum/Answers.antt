@@ -1,7 +1,6 @@
 -- `keep_sum` meets its contract: the carry, the sum, and then their pair.
 -- Assumes nothing.
 use Rattle.cells.proofs.Keepings.{keep_pair}
-use Rattle.std.proofs.Common.{rules}
 use Rattle.cells.proofs.jets.keep_sum.Goals as goal
 
 pub returns : goal.returns

@@ -1,7 +1,6 @@
 -- `keep_two_bits` meets its contract: its halves, and then their pair.
 -- Assumes nothing.
 use Rattle.cells.proofs.Words.{keep_halves}
-use Rattle.std.proofs.Common.{rules}
 use Rattle.cells.proofs.jets.keep_two_bits.Goals as goal
 
 pub returns : goal.returns

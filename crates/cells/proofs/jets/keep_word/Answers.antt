@@ -1,7 +1,6 @@
 -- `keep_word` meets its contract: each width by itself.
 -- Assumes nothing.
 use Rattle.cells.proofs.Words.{keep_wide, fourth_width}
-use Rattle.std.proofs.Common.{rules}
 use Rattle.cells.proofs.jets.keep_word.Goals as goal
 
 pub returns-in-0 : goal.returns-in-0

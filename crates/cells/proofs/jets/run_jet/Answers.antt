@@ -1,7 +1,6 @@
 -- `run_jet` meets its contract: by the jet's number.
 -- Assumes nothing.
 use Rattle.cells.proofs.Deliveries.{jet_verify, jet_eq, jet_add, jet_missing}
-use Rattle.std.proofs.Common.{rules}
 use Rattle.cells.proofs.jets.run_jet.Goals as goal
 
 pub returns-in-0 : goal.returns-in-0

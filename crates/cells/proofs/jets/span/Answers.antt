@@ -1,7 +1,6 @@
 -- `span` meets its contract: computed at each place of its table.
 -- Assumes nothing.
 use Rattle.cells.proofs.Words.{spans}
-use Rattle.std.proofs.Common.{rules}
 use Rattle.cells.proofs.jets.span.Goals as goal
 
 pub returns : goal.returns

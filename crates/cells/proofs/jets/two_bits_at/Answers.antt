@@ -1,7 +1,6 @@
 -- `two_bits_at` meets its contract: two halves, or no pair.
 -- Assumes nothing.
 use Rattle.cells.proofs.Words.{word_none, word_pair}
-use Rattle.std.proofs.Common.{rules}
 use Rattle.cells.proofs.jets.two_bits_at.Goals as goal
 
 pub returns-then-kind_at-ne-PAIR : goal.returns-then-kind_at-ne-PAIR

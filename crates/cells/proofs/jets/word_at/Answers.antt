@@ -1,7 +1,6 @@
 -- `word_at` meets its contract: each width by itself.
 -- Assumes nothing.
 use Rattle.cells.proofs.Words.{word_wide, fourth_width}
-use Rattle.std.proofs.Common.{rules}
 use Rattle.cells.proofs.jets.word_at.Goals as goal
 
 pub returns-in-0 : goal.returns-in-0

@@ -1,6 +1,6 @@
 -- `byte` meets its contract: past the end a byte reads as 0.
 -- Assumes nothing.
-use Rattle.std.proofs.Common.{sym, rules}
+use Rattle.std.proofs.Common.{sym}
 use lib.ListN.{get_or-eq_default}
 use Rattle.cells.proofs.table.byte.Goals as goal
 

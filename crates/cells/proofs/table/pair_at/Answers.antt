@@ -1,6 +1,6 @@
 -- `pair_at` meets its contract: a word of the table, of which the second byte may be past the end.
 -- Assumes nothing.
-use Rattle.std.proofs.Common.{◌∙◌, rules}
+use Rattle.std.proofs.Common.{◌∙◌}
 use Rattle.cells.proofs.Numbers.{word_short}
 use Rattle.cells.proofs.table.pair_at.Goals as goal
 

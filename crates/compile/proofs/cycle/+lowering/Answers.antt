@@ -1,27 +1,24 @@
 -- The lowering of expressions: each function of the cycle does what its definition says, and together they are `lower`.
 -- Assumes nothing.
-use Prim.Native.Nat.{◌+◌, ◌*◌, ◌-◌, ◌≤◌}
-use mathlib.Core.Path.{◌≡◌, refl, sym, ap, ◌∙◌}
+use mathlib.Core.Path.{refl, sym, ap, ◌∙◌}
 use native.Mathlib.Nat.{le_trans, le_of_lt}
 use native.Mathlib.Omega.{arith}
-use borrow.Author.Tests.{not-true, not-false}
-use lib.ListN.{length, length-set}
+use lib.ListN.{length-set}
 use Rattle.laws.specs.Table.{free}
 use Rattle.book.specs.Format.{PATTERN, EXPRESSION, EC, EW, EV, EB, SA, SE, EM, EH, CK, FN}
 use Rattle.book.proofs.Standing.{stands_begins, head_lies, function_mark}
 use Rattle.named.proofs.Pens.{then, halt, closes}
-use Rattle.scope_bindings.specs.Scope.{scope_of, lent, ScopeStands, of_function}
+use Rattle.scope_bindings.specs.Scope.{of_function}
 use Rattle.scope_bindings.proofs.Scopes.{scope_count, root_stands}
 use Rattle.parts.specs.declared.view.Span.{Span}
 use Rattle.parts.proofs.Marks.{lies, most, at_mark}
 use Rattle.parts.proofs.Spans.{stmt_lies, stmt_stands, stmt_below, does_mark, near_most}
 use Rattle.compile.specs.Cycle.{call_run}
 use Rattle.compile.proofs.Shapes.{other_marks, row_is, row_else, cast_is, constant_is, witness_is, variable_is, block_is}
-use Rattle.compile.proofs.Steps.{Suffices, suffices_start, suffices_next, suffices_halt, suffices_done}
-use Rattle.compile.proofs.Blocks.{Begun, begun_start, begun_next, begun_halt, begun_end, begun_end_halt}
+use Rattle.compile.proofs.Steps.{suffices_start, suffices_next, suffices_halt, suffices_done}
+use Rattle.compile.proofs.Blocks.{begun_start, begun_next, begun_halt, begun_end, begun_end_halt}
 use Rattle.compile.proofs.Facts.{head_is, head_less, in_span, does_stands, does_below, value_stands, value_below, inner_stands, arm_done, arm_full, fn_lies, fn_stands, fn_less, fn_done, end_lies, end_is, end_less, begin_does, begin_assign, begin_halt, element_plain, element_arm, functional_lies, functional_stands, functional_below, body_plain, body_fold, body_halt, choose_then, choose_halt, complete_call, complete_wrap, lies_after, arm_names, arm_body, arm_less, marked_as, marked, end_unit, end_expr, row_then, row_halt, second_is, arms_is, enters_is}
 use borrow.Author.Rules.{rules}
-use Prim.Native.Nat.{ℕ, ◌<◌}
 use Rattle.compile.proofs.cycle.+lowering.Goals as goal
 
 pub arm-returns-then-count-ge256 : goal.arm-returns-then-count-ge256

@@ -2,7 +2,6 @@
 -- Assumes nothing.
 use Rattle.named.proofs.Pens.{closes}
 use Rattle.compile.proofs.Steps.{at_full, at_fits}
-use borrow.Author.Rules.{rules}
 use Rattle.compile.proofs.cycle.bind_value.Goals as goal
 
 pub returns-then-live-ge256 : goal.returns-then-live-ge256

@@ -5,7 +5,6 @@ use Rattle.book.proofs.Standing.{stands_begins, head_lies}
 use Rattle.book.specs.Format.{SA}
 use Rattle.compile.proofs.Facts.{head_named, enters_does, enters_full, enters_more}
 use native.Mathlib.Omega.{arith}
-use borrow.Author.Rules.{rules}
 use Rattle.compile.proofs.cycle.enter.Goals as goal
 
 pub mark_at-requires : goal.mark_at-requires

@@ -1,7 +1,6 @@
 -- `variable` meets its contract: the name is field 1.
 -- Assumes nothing.
 use Rattle.parts.proofs.Marks.{lies}
-use borrow.Author.Rules.{rules}
 use Rattle.compile.proofs.cycle.variable.Goals as goal
 
 pub field_at-name-requires : goal.field_at-name-requires

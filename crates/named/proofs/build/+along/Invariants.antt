@@ -1,8 +1,5 @@
 -- `along` meets its contract: one wrap more than for the part that the element is in.
 -- Assumes nothing.
-use Rattle.named.proofs.Builds.{along_one, along_left, along_right}
-use borrow.Author.Rules.{rules}
-use Prim.Native.Nat.{ℕ, ◌<◌}
 use Rattle.named.proofs.build.+along.Given as goal
 
 abbrev pub decreases-along : goal.decreases-along

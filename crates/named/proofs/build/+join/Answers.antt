@@ -2,8 +2,6 @@
 -- Assumes nothing.
 use native.Mathlib.Omega.{arith}
 use Rattle.named.proofs.Builds.{join_none, join_one, join_more}
-use borrow.Author.Rules.{rules}
-use Prim.Native.Nat.{ℕ, ◌<◌}
 use Rattle.named.proofs.build.+join.Goals as goal
 
 pub returns-then-count-eq0 : goal.returns-then-count-eq0

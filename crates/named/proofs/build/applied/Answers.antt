@@ -2,7 +2,6 @@
 -- Assumes nothing.
 use Rattle.named.proofs.Pens.{draw_then}
 use Rattle.named.specs.Combinators.{applied}
-use borrow.Author.Rules.{rules}
 use Rattle.named.proofs.build.applied.Goals as goal
 
 pub returns : goal.returns

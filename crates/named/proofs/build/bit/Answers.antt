@@ -1,6 +1,5 @@
 -- `bit` meets its contract: unit, and then the side that the bit says.
 -- Assumes nothing.
-use Rattle.named.specs.Combinators.{bit}
 use Rattle.named.proofs.Pens.{draw_then}
 use Rattle.named.proofs.Builds.{bit_true, bit_false}
 use borrow.Author.Rules.{rules}

@@ -1,10 +1,6 @@
 -- `select` meets its contract: the steps from the last on, so that the first comes to lie outermost.
 -- Assumes nothing.
-use Prim.Native.Nat.{◌≤◌}
-use lib.ListN.{length, drop}
 use native.Mathlib.Omega.{arith}
-use Rattle.named.specs.Combinators.{wraps}
-use Rattle.named.specs.Draws.{Draws}
 use Rattle.named.proofs.Builds.{steps_none, steps_next, steps_all}
 use borrow.Author.Rules.{rules}
 use Rattle.named.proofs.build.select.Goals as goal

@@ -2,11 +2,8 @@
 -- Assumes nothing.
 use Prim.Native.Nat.{◌≤◌}
 use lib.ListN.{length, drop}
-use native.Mathlib.Omega.{arith}
 use Rattle.named.specs.Combinators.{wraps}
 use Rattle.named.specs.Draws.{Draws}
-use Rattle.named.proofs.Builds.{steps_none, steps_next, steps_all}
-use borrow.Author.Rules.{rules}
 use Rattle.named.proofs.build.select.Given as goal
 
 abbrev pub invariant-loop-k : goal.invariant-loop-k

@@ -4,7 +4,6 @@ use native.Mathlib.Omega.{arith}
 use lib.ListN.{length-set}
 use Rattle.named.specs.Cut.{room}
 use Rattle.named.proofs.Pens.{draw_shut, draw_fits, draw_full}
-use borrow.Author.Rules.{rules}
 use Rattle.named.proofs.node.put.Goals as goal
 
 pub returns-then-pen : goal.returns-then-pen

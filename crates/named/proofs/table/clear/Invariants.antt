@@ -1,13 +1,9 @@
 -- `clear` meets its contract: zeros up to k, and from there on what was there.
 -- Assumes nothing.
-use Prim.Native.Nat.{ℕ, ◌-◌, ◌≤◌}
-use mathlib.Core.List.{List, ◌++◌}
-use mathlib.Core.Path.{◌≡◌, refl, ap, ◌∙◌}
-use native.Mathlib.Omega.{arith}
-use lib.ListN.{length, replicate, drop, set, length-set}
-use borrow.Author.Fill.{fill_none, fill_more}
-use Rattle.named.proofs.Images.{cleared}
-use borrow.Author.Rules.{rules}
+use Prim.Native.Nat.{◌-◌, ◌≤◌}
+use mathlib.Core.List.{◌++◌}
+use mathlib.Core.Path.{◌≡◌}
+use lib.ListN.{length, replicate, drop}
 use Rattle.named.proofs.table.clear.Given as goal
 
 abbrev pub invariant-loop-k : goal.invariant-loop-k

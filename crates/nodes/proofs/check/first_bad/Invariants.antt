@@ -1,15 +1,10 @@
 -- `nodes::first_bad` meets its contract: the nodes before n are well formed, and so are the operands before k.
 -- Assumes nothing.
-use borrow.Author.Rules.{rules}
-use borrow.Author.Tests.{not-true, not-false}
-use borrow.Author.Count.{below_none, below_more}
-use native.Mathlib.Nat.{sub-zero}
 use Prim.Native.Nat.{ℕ, ◌-◌, ◌≤◌, ◌<◌}
 use mathlib.Core.Bool.{true}
 use mathlib.Core.Path.{◌≡◌}
 use Rattle.nodes.specs.Given.{text}
 use Rattle.nodes.specs.Nodes.{operand_fits, first_bad}
-use Rattle.nodes.proofs.Checks.{operand_by, formed_by, formed_not, scan_on, scan_stops, scan_ends}
 use Rattle.nodes.proofs.check.first_bad.Given as goal
 
 abbrev pub invariant-loop-k : goal.invariant-loop-k

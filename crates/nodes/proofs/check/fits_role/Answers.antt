@@ -1,6 +1,5 @@
 -- `nodes::fits_role` meets its contract: in each arm the role's test, and the law `rest` has the default.
 -- Assumes nothing.
-use borrow.Author.Rules.{rules}
 use Rattle.nodes.specs.Given.{text}
 use Rattle.nodes.specs.Nodes.{fits}
 use Rattle.nodes.proofs.Checks.{fits_none}

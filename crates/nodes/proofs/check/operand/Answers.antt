@@ -1,6 +1,5 @@
 -- `nodes::operand` meets its contract: the first or the second number of the entry.
 -- Assumes nothing.
-use borrow.Author.Rules.{rules}
 use borrow.Author.Tests.{eq-eqb, ne_eqb}
 use Rattle.nodes.proofs.check.operand.Goals as goal
 

@@ -1,6 +1,5 @@
 -- `nodes::role` meets its contract: the operand's own role.
 -- Assumes nothing.
-use borrow.Author.Rules.{rules}
 use borrow.Author.Tests.{eq-eqb, ne_eqb}
 use Rattle.nodes.proofs.check.role.Goals as goal
 

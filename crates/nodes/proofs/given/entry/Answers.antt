@@ -1,6 +1,5 @@
 -- `given::entry` meets its contract: past the end a row reads as 0.
 -- Assumes nothing.
-use borrow.Author.Rules.{rules}
 use mathlib.Core.Path.{sym}
 use lib.ListN.{get_or-eq_default}
 use Rattle.nodes.proofs.given.entry.Goals as goal

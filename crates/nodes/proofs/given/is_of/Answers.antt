@@ -1,6 +1,5 @@
 -- `given::is_of` meets its contract: a record that is there has its mark's kind.
 -- Assumes nothing.
-use borrow.Author.Rules.{rules}
 use borrow.Author.Tests.{lt-ltb, le-ltb}
 use Rattle.book.specs.Read.{kind_at}
 use Rattle.book.proofs.Roles.{record_begins}

@@ -1,6 +1,5 @@
 -- `given::is_typed` meets its contract: a value record's type is its first field.
 -- Assumes nothing.
-use borrow.Author.Rules.{rules}
 use mathlib.Core.Path.{sym, ◌∙◌}
 use Rattle.book.specs.Format.{VALUE}
 use Rattle.nodes.specs.Given.{text}

@@ -3,8 +3,6 @@
 use native.Mathlib.Omega.{arith}
 use Rattle.parts.proofs.Lists.{list_none, list_one, list_empty, list_filled}
 use Rattle.parts.proofs.Numbers.{power_halved}
-use borrow.Author.Rules.{rules}
-use Prim.Native.Nat.{ℕ, ◌<◌}
 use Rattle.parts.proofs.part.+list.Goals as goal
 
 pub returns-then-half-eq1 : goal.returns-then-half-eq1

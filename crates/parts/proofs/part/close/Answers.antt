@@ -4,7 +4,6 @@ use borrow.Author.Tests.{eq-eqb, ne_eqb}
 use Rattle.book.proofs.Standing.{stands_begins}
 use Rattle.parts.specs.Parts.{close_run}
 use Rattle.named.proofs.Pens.{closes}
-use borrow.Author.Rules.{rules}
 use Rattle.parts.proofs.part.close.Goals as goal
 
 pub mark_at-requires : goal.mark_at-requires

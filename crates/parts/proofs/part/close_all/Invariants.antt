@@ -1,16 +1,12 @@
 -- `close_all` meets its contract: what is left of the block suffices, from the last statement on.
 -- Assumes nothing.
-use native.Mathlib.Omega.{arith}
 use Prim.Native.Nat.{ℕ, ◌≤◌}
-use mathlib.Core.Path.{◌≡◌, refl, ◌∙◌}
+use mathlib.Core.Path.{◌≡◌}
 use mathlib.Core.List.{List}
 use lib.ListN.{length}
 use Rattle.named.specs.Draws.{Done}
 use Rattle.named.specs.declared.node.Stored.{Stored}
 use Rattle.parts.specs.Parts.{close_all}
-use Rattle.parts.proofs.Spans.{stmt_lies, stmt_stands}
-use Rattle.parts.proofs.Ends.{close_none, close_next, close_halt}
-use borrow.Author.Rules.{rules}
 use Rattle.parts.proofs.part.close_all.Given as goal
 
 abbrev pub invariant-loop-k : goal.invariant-loop-k

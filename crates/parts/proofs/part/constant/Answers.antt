@@ -2,7 +2,6 @@
 -- Assumes nothing.
 use Rattle.named.proofs.Pens.{closes}
 use Rattle.parts.proofs.Marks.{lies}
-use borrow.Author.Rules.{rules}
 use Rattle.parts.proofs.part.constant.Goals as goal
 
 pub field_at-value-requires : goal.field_at-value-requires

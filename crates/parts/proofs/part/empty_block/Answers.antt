@@ -1,7 +1,6 @@
 -- `empty_block` meets its contract: unit, and then its left.
 -- Assumes nothing.
 use Rattle.named.proofs.Pens.{draw_then}
-use borrow.Author.Rules.{rules}
 use Rattle.parts.proofs.part.empty_block.Goals as goal
 
 pub returns : goal.returns

@@ -1,7 +1,6 @@
 -- `filled_block` meets its contract: the tree, and then its right.
 -- Assumes nothing.
 use Rattle.named.proofs.Pens.{draw_then}
-use borrow.Author.Rules.{rules}
 use Rattle.parts.proofs.part.filled_block.Goals as goal
 
 pub returns : goal.returns

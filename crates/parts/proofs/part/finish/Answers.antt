@@ -3,7 +3,6 @@
 use Rattle.parts.specs.Joins.{finished}
 use borrow.Author.Tests.{lt-ltb, le-ltb}
 use Rattle.named.proofs.Pens.{closes}
-use borrow.Author.Rules.{rules}
 use Rattle.parts.proofs.part.finish.Goals as goal
 use Rattle.parts.proofs.part.finish.Goals.{then-symbols+else-symbol-gt0, else-symbols}
 

@@ -13,7 +13,6 @@ use Rattle.parts.specs.Parts.{foldings, fold_run}
 use Rattle.named.specs.Trace.{pure}
 use Rattle.parts.proofs.Marks.{lies, at_mark}
 use Rattle.parts.proofs.Numbers.{from_low, to_high, fold_bound, fold_size, loop_width, loop_power}
-use borrow.Author.Rules.{rules}
 use Rattle.parts.proofs.part.fold_body.Goals as goal
 
 pub field_at-bound-requires : goal.field_at-bound-requires

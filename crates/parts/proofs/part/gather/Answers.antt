@@ -8,7 +8,6 @@ use Rattle.parts.specs.Parts.{gather_run}
 use Rattle.parts.proofs.Marks.{lies, at_mark}
 use Rattle.parts.proofs.Numbers.{list_bound, list_count}
 use Rattle.parts.proofs.Lists.{listed_half}
-use borrow.Author.Rules.{rules}
 use Rattle.parts.proofs.part.gather.Goals as goal
 
 pub field_at-bound-requires : goal.field_at-bound-requires

@@ -6,7 +6,6 @@ use Rattle.builtins.specs.RawHash as hashes
 use Rattle.parts.specs.Parts.{plain_run}
 use Rattle.parts.proofs.Marks.{lies, most}
 use Rattle.parts.proofs.Ends.{widths_add, widths_row_lem, closes_at}
-use borrow.Author.Rules.{rules}
 use Rattle.parts.proofs.part.hash_body.Goals as goal
 
 pub field_at-count-requires : goal.field_at-count-requires

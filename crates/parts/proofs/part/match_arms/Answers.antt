@@ -2,7 +2,6 @@
 -- Assumes nothing.
 use Rattle.parts.specs.Joins.{matched}
 use Rattle.named.proofs.Pens.{closes, draw_then}
-use borrow.Author.Rules.{rules}
 use Rattle.parts.proofs.part.match_arms.Goals as goal
 
 pub returns : goal.returns

@@ -5,7 +5,6 @@ use Rattle.book.specs.Format.{CJ, CH}
 use Rattle.named.proofs.Pens.{closes}
 use Rattle.parts.specs.Parts.{plain_run}
 use Rattle.parts.proofs.Marks.{plain_marks, lies, at_mark, plain_rest}
-use borrow.Author.Rules.{rules}
 use Rattle.parts.proofs.part.plain_body.Goals as goal
 
 pub field_at-jet-requires : goal.field_at-jet-requires

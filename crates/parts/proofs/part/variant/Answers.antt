@@ -6,7 +6,6 @@ use Rattle.named.proofs.Pens.{closes}
 use Rattle.parts.specs.Parts.{wrap_run}
 use Rattle.parts.proofs.Marks.{lies}
 use Rattle.parts.proofs.Numbers.{variant_under, variant_most}
-use borrow.Author.Rules.{rules}
 use Rattle.parts.proofs.part.variant.Goals as goal
 
 pub field_at-k-requires : goal.field_at-k-requires

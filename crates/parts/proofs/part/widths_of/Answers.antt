@@ -1,13 +1,10 @@
 -- `widths_of` meets its contract: one width more each time.
 -- Assumes nothing.
 use native.Mathlib.Omega.{arith}
-use Prim.Native.Nat.{◌≤◌, ◌-◌}
-use mathlib.Core.Path.{◌≡◌, refl}
-use lib.ListN.{length, length-set}
-use Rattle.parts.specs.Parts.{Widths}
+use mathlib.Core.Path.{refl}
+use lib.ListN.{length-set}
 use Rattle.parts.proofs.Marks.{width_lies}
 use Rattle.parts.proofs.Ends.{widths_none, widths_next, widths_all}
-use borrow.Author.Rules.{rules}
 use Rattle.parts.proofs.part.widths_of.Goals as goal
 
 pub loop-k-init : goal.loop-k-init

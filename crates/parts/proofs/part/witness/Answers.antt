@@ -2,7 +2,6 @@
 -- Assumes nothing.
 use Rattle.named.proofs.Pens.{closes}
 use Rattle.parts.proofs.Marks.{lies}
-use borrow.Author.Rules.{rules}
 use Rattle.parts.proofs.part.witness.Goals as goal
 
 pub field_at-name-requires : goal.field_at-name-requires

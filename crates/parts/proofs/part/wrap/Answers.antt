@@ -6,7 +6,6 @@ use Rattle.book.specs.Format.{EN}
 use Rattle.parts.specs.Parts.{wrappings, wrap_run}
 use Rattle.named.specs.Trace.{pure}
 use Rattle.parts.proofs.Marks.{at_mark}
-use borrow.Author.Rules.{rules}
 use Rattle.parts.proofs.part.wrap.Goals as goal
 
 pub variant-requires : goal.variant-requires

@@ -3,7 +3,6 @@
 use mathlib.Core.Path.{◌∙◌, ap}
 use Prim.Native.Nat.{ℕ}
 use Rattle.parts.specs.Parts.{span}
-use borrow.Author.Rules.{rules}
 use Rattle.parts.proofs.view.counted.Goals as goal
 
 pub returns : goal.returns

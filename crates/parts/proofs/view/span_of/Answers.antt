@@ -8,7 +8,6 @@ use Rattle.book.specs.Index.{field}
 use Rattle.parts.specs.Parts.{span, spans, span_at}
 use Rattle.parts.proofs.Marks.{lies, most, at_mark, spanned_as, spanned}
 use Rattle.parts.proofs.Numbers.{list_most, arms_most}
-use borrow.Author.Rules.{rules}
 use Rattle.parts.proofs.view.span_of.Goals as goal
 
 pub counted-requires : goal.counted-requires

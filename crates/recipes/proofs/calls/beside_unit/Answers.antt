@@ -2,7 +2,6 @@
 -- Assumes nothing.
 use Rattle.recipes.specs.Calls.{beside_unit}
 use Rattle.named.proofs.Pens.{draw_then}
-use borrow.Author.Rules.{rules}
 use Rattle.recipes.proofs.calls.beside_unit.Goals as goal
 
 pub returns : goal.returns

@@ -3,7 +3,6 @@
 use mathlib.Core.Path.{◌∙◌}
 use Rattle.recipes.specs.Calls.{is_none}
 use Rattle.named.proofs.Pens.{draw_then}
-use borrow.Author.Rules.{rules}
 use Rattle.recipes.proofs.calls.is_none.Goals as goal
 
 pub shape_of-nodes : goal.shape_of-nodes

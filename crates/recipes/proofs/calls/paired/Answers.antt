@@ -2,7 +2,6 @@
 -- Assumes nothing.
 use Rattle.recipes.specs.Calls.{paired}
 use Rattle.named.proofs.Pens.{draw_then}
-use borrow.Author.Rules.{rules}
 use Rattle.recipes.proofs.calls.paired.Goals as goal
 
 pub returns : goal.returns

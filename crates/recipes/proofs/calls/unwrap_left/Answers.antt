@@ -2,7 +2,6 @@
 -- Assumes nothing.
 use Rattle.recipes.specs.Calls.{unwrap_left}
 use Rattle.named.proofs.Pens.{draw_then}
-use borrow.Author.Rules.{rules}
 use Rattle.recipes.proofs.calls.unwrap_left.Goals as goal
 
 pub returns : goal.returns

@@ -2,7 +2,6 @@
 -- Assumes nothing.
 use Rattle.recipes.specs.Calls.{unwrap_right}
 use Rattle.named.proofs.Pens.{draw_then}
-use borrow.Author.Rules.{rules}
 use Rattle.recipes.proofs.calls.unwrap_right.Goals as goal
 
 pub returns : goal.returns

@@ -1,7 +1,6 @@
 -- `filled` meets its contract: each row is made of the one before.
 -- Assumes nothing.
-use Prim.Native.Nat.{◌-◌, ◌*◌}
-use Rattle.recipes.proofs.Loops.{Holds, holds_first, holds_again, holds_all}
+use Rattle.recipes.proofs.Loops.{holds_first, holds_again, holds_all}
 use borrow.Author.Rules.{rules}
 use Rattle.recipes.proofs.for_while.filled.Goals as goal
 

@@ -1,8 +1,7 @@
 -- `filled` meets its contract: each row is made of the one before.
 -- Assumes nothing.
 use Prim.Native.Nat.{◌-◌, ◌*◌}
-use Rattle.recipes.proofs.Loops.{Holds, holds_first, holds_again, holds_all}
-use borrow.Author.Rules.{rules}
+use Rattle.recipes.proofs.Loops.{Holds}
 use Rattle.recipes.proofs.for_while.filled.Given as goal
 
 abbrev pub invariant-loop-i : goal.invariant-loop-i

@@ -1,15 +1,9 @@
 -- `for_while` meets its contract: the tasks from the end on are the loop.
 -- Assumes nothing.
-use mathlib.Core.Path.{refl}
-use Prim.Native.Nat.{◌-◌, ◌*◌, ◌≤◌}
+use Prim.Native.Nat.{◌≤◌}
 use lib.ListN.{take, drop}
-use lib.Pow.{pow_pos}
-use native.Mathlib.Omega.{arith}
-use Rattle.array.specs.Split.{top_of}
 use Rattle.named.specs.Draws.{Draws}
 use Rattle.recipes.specs.ForWhile.{done_from}
-use Rattle.recipes.proofs.Loops.{done_none, done_next, loop_all}
-use borrow.Author.Rules.{rules}
 use Rattle.recipes.proofs.for_while.for_while.Given as goal
 
 abbrev pub invariant-loop-k : goal.invariant-loop-k

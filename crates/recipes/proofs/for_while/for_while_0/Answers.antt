@@ -3,7 +3,6 @@
 use mathlib.Core.Path.{◌∙◌}
 use Rattle.recipes.specs.ForWhile.{for_while0}
 use Rattle.named.proofs.Pens.{draw_then}
-use borrow.Author.Rules.{rules}
 use Rattle.recipes.proofs.for_while.for_while_0.Goals as goal
 
 pub shape_of-nodes : goal.shape_of-nodes

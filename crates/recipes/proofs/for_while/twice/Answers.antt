@@ -1,9 +1,7 @@
 -- `twice` meets its contract: the tasks are pasted behind themselves, one by one.
 -- Assumes nothing.
-use Prim.Native.Nat.{◌-◌, ◌≤◌}
-use mathlib.Core.Path.{◌≡◌}
 use native.Mathlib.Omega.{arith}
-use lib.Seq.{paste, paste-zero}
+use lib.Seq.{paste-zero}
 use Rattle.recipes.proofs.Loops.{twice_again, twice_done}
 use borrow.Author.Rules.{rules}
 use Rattle.recipes.proofs.for_while.twice.Goals as goal

@@ -2,10 +2,7 @@
 -- Assumes nothing.
 use Prim.Native.Nat.{◌-◌, ◌≤◌}
 use mathlib.Core.Path.{◌≡◌}
-use native.Mathlib.Omega.{arith}
-use lib.Seq.{paste, paste-zero}
-use Rattle.recipes.proofs.Loops.{twice_again, twice_done}
-use borrow.Author.Rules.{rules}
+use lib.Seq.{paste}
 use Rattle.recipes.proofs.for_while.twice.Given as goal
 
 abbrev pub invariant-loop-k : goal.invariant-loop-k

@@ -1,7 +1,7 @@
 -- `list_fold` meets its contract: after each doubling, what is left of them makes the whole.
 -- Assumes nothing.
 use native.Mathlib.Omega.{arith}
-use Rattle.recipes.proofs.Folds.{Doubling, doubling_first, doubling_next, list_whole, top_some}
+use Rattle.recipes.proofs.Folds.{doubling_first, doubling_next, list_whole, top_some}
 use borrow.Author.Rules.{rules}
 use Rattle.recipes.proofs.list_fold.list_fold.Goals as goal
 

@@ -1,8 +1,6 @@
 -- `list_fold` meets its contract: after each doubling, what is left of them makes the whole.
 -- Assumes nothing.
-use native.Mathlib.Omega.{arith}
-use Rattle.recipes.proofs.Folds.{Doubling, doubling_first, doubling_next, list_whole, top_some}
-use borrow.Author.Rules.{rules}
+use Rattle.recipes.proofs.Folds.{Doubling}
 use Rattle.recipes.proofs.list_fold.list_fold.Given as goal
 
 abbrev pub invariant-loop-doublings : goal.invariant-loop-doublings

@@ -3,7 +3,6 @@
 use mathlib.Core.Path.{◌∙◌}
 use Rattle.recipes.specs.ListFold.{next_fold}
 use Rattle.named.proofs.Pens.{draw_then}
-use borrow.Author.Rules.{rules}
 use Rattle.recipes.proofs.list_fold.next_f_fold.Goals as goal
 
 pub shape_of-nodes : goal.shape_of-nodes

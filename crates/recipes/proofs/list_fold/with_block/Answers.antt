@@ -3,7 +3,6 @@
 use mathlib.Core.Path.{◌∙◌}
 use Rattle.recipes.specs.ListFold.{with_block}
 use Rattle.named.proofs.Pens.{draw_then}
-use borrow.Author.Rules.{rules}
 use Rattle.recipes.proofs.list_fold.with_block.Goals as goal
 
 pub shape_of-nodes : goal.shape_of-nodes

@@ -1,11 +1,9 @@
 -- `initial::number_values` meets its contract: the first r records are numbered.
 -- Assumes nothing.
-use borrow.Author.Rules.{rules}
 use native.Mathlib.Omega.{arith}
-use Prim.Native.Nat.{◌-◌}
 use mathlib.Core.Path.{sym, ◌∙◌}
 use Rattle.nodes.specs.Given.{text}
-use Rattle.run.proofs.Seeds.{Numbered, zeros_length, few_values, number_none, number_value, number_other, number_all}
+use Rattle.run.proofs.Seeds.{zeros_length, few_values, number_none, number_value, number_other, number_all}
 use Rattle.run.proofs.initial.number_values.Goals as goal
 use Rattle.run.proofs.initial.number_values.Goals.{then-is_of, else-is_of}
 

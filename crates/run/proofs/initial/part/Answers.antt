@@ -1,6 +1,5 @@
 -- `initial::part` meets its contract: the row's entry of what the field names.
 -- Assumes nothing.
-use borrow.Author.Rules.{rules}
 use Rattle.run.proofs.initial.part.Goals as goal
 
 pub returns : goal.returns

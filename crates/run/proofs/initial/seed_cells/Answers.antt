@@ -2,12 +2,8 @@
 -- Assumes nothing.
 use borrow.Author.Rules.{rules}
 use native.Mathlib.Omega.{arith}
-use Prim.Native.Nat.{ℕ, ◌-◌, ◌≤◌}
-use mathlib.Core.List.{List}
-use mathlib.Core.Path.{◌≡◌, refl}
-use lib.ListN.{length}
+use mathlib.Core.Path.{refl}
 use Rattle.nodes.specs.Given.{text}
-use Rattle.run.specs.Calls.{Started}
 use Rattle.run.proofs.Seeds.{start_unit, start_one, start_all}
 use Rattle.run.proofs.initial.seed_cells.Goals as goal
 

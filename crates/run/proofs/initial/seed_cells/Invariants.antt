@@ -1,14 +1,11 @@
 -- `initial::seed_cells` meets its contract: cell 0 and the cells of the first r records are stored.
 -- Assumes nothing.
-use borrow.Author.Rules.{rules}
-use native.Mathlib.Omega.{arith}
 use Prim.Native.Nat.{ℕ, ◌-◌, ◌≤◌}
 use mathlib.Core.List.{List}
-use mathlib.Core.Path.{◌≡◌, refl}
+use mathlib.Core.Path.{◌≡◌}
 use lib.ListN.{length}
 use Rattle.nodes.specs.Given.{text}
 use Rattle.run.specs.Calls.{Started}
-use Rattle.run.proofs.Seeds.{start_unit, start_one, start_all}
 use Rattle.run.proofs.initial.seed_cells.Given as goal
 
 abbrev pub invariant-loop-r : goal.invariant-loop-r

@@ -1,6 +1,5 @@
 -- `initial::seed_one` meets its contract: a value's cell is stored, and nothing of another record.
 -- Assumes nothing.
-use borrow.Author.Rules.{rules}
 use mathlib.Core.Path.{sym, ◌∙◌}
 use Rattle.nodes.specs.Given.{text}
 use Rattle.run.proofs.Seeds.{one_value, one_other}

@@ -1,6 +1,5 @@
 -- `initial::seed_value` meets its contract: in each arm the cell of the mark, its parts' cells by the row.
 -- Assumes nothing.
-use borrow.Author.Rules.{rules}
 use mathlib.Core.Path.{sym, ◌∙◌}
 use Rattle.book.specs.Format.{VALUE, VL, VR, VP}
 use Rattle.book.proofs.Standing.{stands_begins, head_lies}

@@ -2,13 +2,9 @@
 -- Assumes nothing.
 use native.Mathlib.Omega.{arith}
 use Rattle.book.specs.Format.{TP}
-use Rattle.book.specs.Tree.{type_of}
 use Rattle.book.proofs.Standing.{stands_begins}
-use Rattle.array.specs.Split.{top_of}
-use Rattle.shapes.specs.Shapes.{element_of}
 use Rattle.shapes.proofs.Sides.{side_lies}
-use Rattle.shapes.proofs.Powers.{Down}
-use Rattle.shapes.proofs.Lists.{last_of, element_start, element_end, element_none, element_next}
+use Rattle.shapes.proofs.Lists.{element_start, element_end, element_none, element_next}
 use Rattle.shapes.proofs.part.element_of.Goals as goal
 
 pub loop-half-init : goal.loop-half-init

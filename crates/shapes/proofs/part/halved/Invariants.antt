@@ -1,15 +1,9 @@
 -- `halved` meets its contract: a pair of one type twice, as often as the number can be halved.
 -- Assumes nothing.
-use native.Mathlib.Omega.{arith}
-use mathlib.Core.Path.{refl}
-use Rattle.book.specs.Format.{TP}
 use Rattle.book.specs.Tree.{type_of}
-use Rattle.book.proofs.Standing.{stands_begins}
 use Rattle.array.specs.Split.{top_of}
 use Rattle.shapes.specs.Views.{halved_of}
-use Rattle.shapes.proofs.Sides.{side_lies}
 use Rattle.shapes.proofs.Powers.{Down}
-use Rattle.shapes.proofs.Halves.{halved_end, halved_none, halved_unlike, halved_next}
 use Rattle.shapes.proofs.part.halved.Given as goal
 
 abbrev pub invariant-loop-count : goal.invariant-loop-count

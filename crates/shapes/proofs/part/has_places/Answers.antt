@@ -1,10 +1,7 @@
 -- `has_places` meets its contract: there is a place for each, one more each time.
 -- Assumes nothing.
 use native.Mathlib.Omega.{arith}
-use Prim.Native.Nat.{◌≤◌, ◌-◌}
-use mathlib.Core.Bool.{true}
 use mathlib.Core.Path.{◌≡◌, refl, sym}
-use Rattle.laws.specs.Table.{below}
 use Rattle.book.specs.Tree.{type_of}
 use Rattle.shapes.specs.Shapes.{sums, place_of, is_there, has_places}
 use Rattle.shapes.proofs.Same.{there_not, there_is}

@@ -1,10 +1,8 @@
 -- `is_array` meets its contract: each place is the type's, one more each time.
 -- Assumes nothing.
-use native.Mathlib.Omega.{arith}
 use Prim.Native.Nat.{◌-◌}
 use Rattle.book.specs.Tree.{type_of}
-use Rattle.shapes.proofs.Same.{gives_is, gives_other}
-use Rattle.shapes.proofs.Places.{Agrees, agrees_none, agrees_next, array_all, array_not}
+use Rattle.shapes.proofs.Places.{Agrees}
 use Rattle.shapes.proofs.part.is_array.Given as goal
 
 abbrev pub invariant-loop-k : goal.invariant-loop-k

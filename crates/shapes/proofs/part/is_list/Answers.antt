@@ -2,14 +2,11 @@
 -- Assumes nothing.
 use native.Mathlib.Omega.{arith}
 use mathlib.Core.Path.{refl}
-use Rattle.simplicity.specs.Types.{same}
 use Rattle.book.specs.Format.{TP}
 use Rattle.book.specs.Tree.{type_of}
 use Rattle.book.proofs.Standing.{stands_begins}
-use Rattle.shapes.specs.Shapes.{list_type}
 use Rattle.shapes.proofs.Sides.{side_lies, side_at}
-use Rattle.shapes.proofs.Powers.{Down}
-use Rattle.shapes.proofs.Lists.{is_lists, list_start, list_end, list_not, list_other, list_next}
+use Rattle.shapes.proofs.Lists.{list_start, list_end, list_not, list_other, list_next}
 use Rattle.shapes.proofs.part.is_list.Goals as goal
 
 pub loop-half-init : goal.loop-half-init

@@ -2,12 +2,9 @@
 -- Assumes nothing.
 use native.Mathlib.Omega.{arith}
 use mathlib.Core.Path.{refl}
-use Rattle.book.specs.Tree.{type_of}
 use Rattle.book.proofs.Standing.{stands_begins}
-use Rattle.shapes.specs.Shapes.{place_of}
-use Rattle.shapes.specs.Views.{sort_of}
 use Rattle.shapes.proofs.Sides.{side_lies}
-use Rattle.shapes.proofs.Ways.{On, way_end, way_none, way_left, way_right}
+use Rattle.shapes.proofs.Ways.{way_end, way_none, way_left, way_right}
 use Rattle.shapes.proofs.part.place.Goals as goal
 
 pub loop-count-init : goal.loop-count-init

@@ -1,13 +1,9 @@
 -- `place` meets its contract: each turn leads to a side, until one place is left.
 -- Assumes nothing.
-use native.Mathlib.Omega.{arith}
-use mathlib.Core.Path.{refl}
 use Rattle.book.specs.Tree.{type_of}
-use Rattle.book.proofs.Standing.{stands_begins}
 use Rattle.shapes.specs.Shapes.{place_of}
 use Rattle.shapes.specs.Views.{sort_of}
-use Rattle.shapes.proofs.Sides.{side_lies}
-use Rattle.shapes.proofs.Ways.{On, way_end, way_none, way_left, way_right}
+use Rattle.shapes.proofs.Ways.{On}
 use Rattle.shapes.proofs.part.place.Given as goal
 
 abbrev pub invariant-loop-count : goal.invariant-loop-count

@@ -6,7 +6,6 @@ use Rattle.laws.specs.Table.{free}
 use Rattle.book.specs.Format.{E0, E1, EB, EC, EH, EL, EM, EN, ET}
 use Rattle.shapes.proofs.Declared.{expr_declares}
 use Rattle.shapes.proofs.Marks.{other_rest, other_marks, typed_as}
-use borrow.Author.Rules.{rules}
 use Rattle.shapes.proofs.whole.agrees.Goals as goal
 
 pub field_at-t-requires : goal.field_at-t-requires

@@ -1,15 +1,9 @@
 -- `are_all` meets its contract: a loop over the parts.
 -- Assumes nothing.
-use Prim.Native.Nat.{◌-◌}
 use native.Mathlib.Omega.{arith}
-use Rattle.simplicity.specs.Types.{same}
-use Rattle.book.specs.Tree.{type_of}
 use Rattle.shapes.proofs.Constructs.{is_test}
-use Rattle.shapes.proofs.Rows.{all_walk, part_at, row_near}
-use Rattle.shapes.proofs.Walks.{Left, differ, equal, left_end, left_on, left_start, left_stop}
-use Rattle.shapes.specs.Shapes.{all_are}
-use Rattle.shapes.specs.Wholes.{types_at}
-use borrow.Author.Rules.{rules}
+use Rattle.shapes.proofs.Rows.{all_walk, row_near}
+use Rattle.shapes.proofs.Walks.{differ, equal, left_end, left_on, left_start, left_stop}
 use Rattle.shapes.proofs.whole.are_all.Goals as goal
 
 pub loop-k-init : goal.loop-k-init

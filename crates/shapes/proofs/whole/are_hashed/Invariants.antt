@@ -1,16 +1,12 @@
 -- `are_hashed` meets its contract: a loop over the words.
 -- Assumes nothing.
 use Prim.Native.Nat.{◌*◌, ◌+◌, ◌-◌}
-use native.Mathlib.Omega.{arith}
 use Rattle.simplicity.specs.Types.{same}
 use Rattle.book.specs.Index.{field}
 use Rattle.book.specs.Tree.{expr_of}
-use Rattle.shapes.proofs.Functions.{hash_most, width_lies, width_power, word_part}
-use Rattle.shapes.proofs.Rows.{words_walk}
-use Rattle.shapes.proofs.Walks.{Left, left_end, left_on, left_start, left_stop, no, yes}
+use Rattle.shapes.proofs.Walks.{Left}
 use Rattle.shapes.specs.Shapes.{type_is, word_type}
 use Rattle.shapes.specs.Wholes.{words_at}
-use borrow.Author.Rules.{rules}
 use Rattle.shapes.proofs.whole.are_hashed.Given as goal
 
 abbrev pub invariant-loop-k : goal.invariant-loop-k

@@ -1,17 +1,10 @@
 -- `are_taken` meets its contract: a loop over the arguments.
 -- Assumes nothing.
-use Prim.Native.Nat.{◌*◌, ◌+◌, ◌-◌}
 use native.Mathlib.Omega.{arith}
-use Rattle.simplicity.specs.Types.{same}
-use Rattle.book.specs.Index.{field}
-use Rattle.book.specs.Tree.{expr_of, type_of}
 use Rattle.shapes.proofs.Constructs.{is_test}
 use Rattle.shapes.proofs.Functions.{argument, param_at, param_lies}
 use Rattle.shapes.proofs.Rows.{taken_walk}
-use Rattle.shapes.proofs.Walks.{Left, differ, equal, left_end, left_on, left_start, left_stop}
-use Rattle.shapes.specs.Shapes.{same_all, type_is}
-use Rattle.shapes.specs.Wholes.{takes_at, types_at}
-use borrow.Author.Rules.{rules}
+use Rattle.shapes.proofs.Walks.{differ, equal, left_end, left_on, left_start, left_stop}
 use Rattle.shapes.proofs.whole.are_taken.Goals as goal
 
 pub loop-k-init : goal.loop-k-init

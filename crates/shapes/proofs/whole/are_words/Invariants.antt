@@ -1,13 +1,11 @@
 -- `are_words` meets its contract: a loop over the parts.
 -- Assumes nothing.
 use Prim.Native.Nat.{◌-◌}
-use native.Mathlib.Omega.{arith}
 use Rattle.simplicity.specs.Types.{same}
-use Rattle.shapes.proofs.Rows.{all_walk, part_at, row_near}
-use Rattle.shapes.proofs.Walks.{Left, left_end, left_on, left_start, left_stop, no, yes}
+use Rattle.shapes.proofs.Rows.{part_at}
+use Rattle.shapes.proofs.Walks.{Left}
 use Rattle.shapes.specs.Shapes.{all_are, word_type}
 use Rattle.shapes.specs.Wholes.{types_at}
-use borrow.Author.Rules.{rules}
 use Rattle.shapes.proofs.whole.are_words.Given as goal
 
 abbrev pub invariant-loop-k : goal.invariant-loop-k

@@ -4,7 +4,6 @@ use native.Mathlib.Omega.{arith}
 use Rattle.shapes.proofs.Constructs.{names, typed_lies}
 use Rattle.shapes.proofs.Functions.{array_fold_lem, count_lies, fold_few, fold_function, fold_is, fold_size, folding, param_at, param_lies}
 use Rattle.shapes.proofs.Walks.{fails, no, passes, tells, yes}
-use borrow.Author.Rules.{rules}
 use Rattle.shapes.proofs.whole.array_fold.Goals as goal
 
 pub field_at-f-requires : goal.field_at-f-requires

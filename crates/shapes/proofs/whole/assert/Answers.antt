@@ -2,7 +2,6 @@
 -- Assumes nothing.
 use Rattle.shapes.proofs.Constructs.{assert_is, names, typed_lies, typed_stands}
 use Rattle.shapes.proofs.Walks.{fails, no, passes, tells, yes}
-use borrow.Author.Rules.{rules}
 use Rattle.shapes.proofs.whole.assert.Goals as goal
 
 pub part_type-part-requires : goal.part_type-part-requires

@@ -3,7 +3,6 @@
 use Rattle.shapes.proofs.Constructs.{block_is, block_lies, block_none, end_is, typed_lies, typed_stands}
 use Rattle.shapes.proofs.Same.{types_same}
 use Rattle.shapes.proofs.Walks.{tells}
-use borrow.Author.Rules.{rules}
 use Rattle.shapes.proofs.whole.block.Goals as goal
 
 pub field_at-n-requires : goal.field_at-n-requires

@@ -5,7 +5,6 @@ use Rattle.shapes.proofs.Constructs.{typed_lies, typed_stands}
 use Rattle.shapes.proofs.Functions.{call_few, call_function, call_is, call_row, count_lies, result_lies, result_stands}
 use Rattle.shapes.proofs.Same.{types_same}
 use Rattle.shapes.proofs.Walks.{fails, no, passes, tells, yes}
-use borrow.Author.Rules.{rules}
 use Rattle.shapes.proofs.whole.call.Goals as goal
 
 pub field_at-f-requires : goal.field_at-f-requires

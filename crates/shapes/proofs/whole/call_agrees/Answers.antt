@@ -4,7 +4,6 @@ use native.Mathlib.Omega.{arith}
 use Rattle.laws.specs.Table.{free}
 use Rattle.book.specs.Format.{CA, CD, CF, CH, CJ, CK, CL, CN, CQ, CR, CW, CY}
 use Rattle.shapes.proofs.Marks.{call_rest, call_marks, typed_at}
-use borrow.Author.Rules.{rules}
 use Rattle.shapes.proofs.whole.call_agrees.Goals as goal
 
 pub jet-requires : goal.jet-requires

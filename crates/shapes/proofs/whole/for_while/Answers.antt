@@ -5,7 +5,6 @@ use Rattle.shapes.proofs.Constructs.{is_test, names, typed_lies, typed_stands}
 use Rattle.shapes.proofs.Functions.{count_lies, loop_few, loop_function, loop_power, looping, param_at, param_lies, result_lies, result_stands}
 use Rattle.shapes.proofs.Same.{gives_at, types_same}
 use Rattle.shapes.proofs.Walks.{differ, equal, fails, no, passes, tells, yes}
-use borrow.Author.Rules.{rules}
 use Rattle.shapes.proofs.whole.for_while.Goals as goal
 
 pub field_at-f-requires : goal.field_at-f-requires

@@ -3,7 +3,6 @@
 use Rattle.shapes.proofs.Constructs.{typed_lies, typed_stands}
 use Rattle.shapes.proofs.Functions.{hash_is}
 use Rattle.shapes.proofs.Walks.{fails, no, passes, tells, yes}
-use borrow.Author.Rules.{rules}
 use Rattle.shapes.proofs.whole.hash.Goals as goal
 
 pub field_at-n-requires : goal.field_at-n-requires

@@ -1,16 +1,10 @@
 -- `is_row` meets its contract: no part is unit's row, else a loop over the parts, each at its place.
 -- Assumes nothing.
-use Prim.Native.Nat.{◌-◌}
 use mathlib.Core.Path.{◌∙◌}
 use native.Mathlib.Omega.{arith}
-use Rattle.simplicity.specs.Types.{same}
-use Rattle.book.specs.Tree.{type_of}
 use Rattle.shapes.proofs.Constructs.{given_is}
-use Rattle.shapes.proofs.Rows.{place_is, row_near, row_unit, row_walk}
-use Rattle.shapes.proofs.Walks.{Left, differ, equal, left_end, left_on, left_start, left_stop}
-use Rattle.shapes.specs.Shapes.{row_type}
-use Rattle.shapes.specs.Wholes.{types_at}
-use borrow.Author.Rules.{rules}
+use Rattle.shapes.proofs.Rows.{row_near, row_unit, row_walk}
+use Rattle.shapes.proofs.Walks.{differ, equal, left_end, left_on, left_start, left_stop}
 use Rattle.shapes.proofs.whole.is_row.Goals as goal
 
 pub is_unit-requires : goal.is_unit-requires

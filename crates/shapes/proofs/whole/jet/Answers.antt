@@ -5,7 +5,6 @@ use Rattle.shapes.proofs.Constructs.{typed_lies, typed_stands}
 use Rattle.shapes.proofs.Functions.{jet_bits, jet_few, jet_is, jet_number, jet_result, jet_some, jet_word}
 use Rattle.shapes.proofs.Rows.{span_row}
 use Rattle.shapes.proofs.Walks.{fails, no, passes, tells, yes}
-use borrow.Author.Rules.{rules}
 use Rattle.shapes.proofs.whole.jet.Goals as goal
 
 pub span_of-span-requires : goal.span_of-span-requires

@@ -4,7 +4,6 @@ use Rattle.shapes.proofs.Constructs.{list_bound, list_is, list_none, typed_lies,
 use Rattle.shapes.proofs.Rows.{span_row}
 use Rattle.shapes.proofs.Same.{gives_none, gives_some, gives_stands}
 use Rattle.shapes.proofs.Walks.{fails, no, passes, tells, yes}
-use borrow.Author.Rules.{rules}
 use Rattle.shapes.proofs.whole.list.Goals as goal
 
 pub span_of-span-requires : goal.span_of-span-requires

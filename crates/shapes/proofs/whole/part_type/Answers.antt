@@ -1,6 +1,5 @@
 -- `part_type` meets its contract: the field's expression, and its type.
 -- Assumes nothing.
-use borrow.Author.Rules.{rules}
 use Rattle.shapes.proofs.whole.part_type.Goals as goal
 
 pub type_of-requires : goal.type_of-requires

@@ -9,7 +9,6 @@ use Rattle.shapes.proofs.Declared.{value_declares}
 use Rattle.shapes.proofs.Marks.{pair_rest, value_left, value_lies, value_names, value_right, value_type_stands, value_unit}
 use Rattle.shapes.proofs.Same.{gives_at}
 use Rattle.shapes.proofs.Walks.{tells}
-use borrow.Author.Rules.{rules}
 use Rattle.shapes.proofs.whole.value_agrees.Goals as goal
 
 pub field_at-t-requires : goal.field_at-t-requires

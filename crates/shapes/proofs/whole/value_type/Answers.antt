@@ -1,7 +1,6 @@
 -- `value_type` meets its contract: a value's first field is its declared type.
 -- Assumes nothing.
 use Rattle.shapes.proofs.Declared.{value_declares}
-use borrow.Author.Rules.{rules}
 use Rattle.shapes.proofs.whole.value_type.Goals as goal
 
 pub field_at-requires : goal.field_at-requires

@@ -5,7 +5,6 @@ use Rattle.shapes.proofs.Constructs.{at_none, at_some, typed_lies, typed_stands,
 use Rattle.shapes.proofs.Rows.{span_row}
 use Rattle.shapes.proofs.Same.{gives_none, gives_some, gives_stands}
 use Rattle.shapes.proofs.Walks.{fails, no, passes, tells, yes}
-use borrow.Author.Rules.{rules}
 use Rattle.shapes.proofs.whole.variant.Goals as goal
 
 pub span_of-span-requires : goal.span_of-span-requires

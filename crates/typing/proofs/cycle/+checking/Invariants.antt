@@ -1,23 +1,10 @@
 -- CHECK's cycle: each function judges what its definition says, and leaves the live bindings as they were.
 -- Assumes nothing.
 use Prim.Native.Nat.{◌+◌, ◌*◌, ◌-◌}
-use mathlib.Core.Path.{refl, sym, ◌∙◌}
-use native.Mathlib.Nat.{le_trans, le_of_lt}
-use native.Mathlib.Omega.{arith}
-use borrow.Author.Rules.{rules}
-use borrow.Author.Tests.{not-true, not-false}
-use Rattle.book.specs.Format.{EV, EB, EM, EH, CK}
 use Rattle.book.specs.Tree.{type_of}
-use Rattle.book.proofs.Standing.{stands_begins}
-use Rattle.parts.proofs.Marks.{at_mark}
-use Rattle.parts.proofs.Spans.{stmt_lies, near_most}
 use Rattle.binders.specs.Memos.{scope_of}
 use Rattle.typing.specs.Cycle.{checks_at, row_of, arms_from}
-use Rattle.typing.proofs.Depths.{enough_part, enough_one}
-use Rattle.typing.proofs.Scopes.{stays_scoped}
-use Rattle.typing.proofs.Facts.{marked, marked_at, checks_none, row_lies, row_part, block_lies, block_most, stmt_part, end_lies, end_part, does_lies, does_part, bound_lies, bound_part, value_lies, value_part, two_arms, arms_count, enum_arms, cast_lies, cast_part}
-use Rattle.typing.proofs.Steps.{missing_length, stays_of, arm_then, arm_halt, bound_scoped, place_stands, place_type, Going, going_start, going_end, row_start, arms_none, arms_start, match_not, Block, block_start, block_scoped, block_halt, block_next, block_none, block_end, does_then, does_halt, does_stated, assign_then, assign_halt, expr_then, expr_halt, parts_block, parts_match, parts_enum, parts_cast, parts_row, row_again, row_halt, arms_again, arms_halt, match_then, match_halt, at_once, sought}
-use Prim.Native.Nat.{ℕ, ◌<◌}
+use Rattle.typing.proofs.Steps.{Going, Block}
 use Rattle.typing.proofs.cycle.+checking.Given as goal
 
 abbrev pub decreases-arm : goal.decreases-arm

@@ -1,7 +1,6 @@
 -- `bind` meets its contract: by whether the pattern fits and has a name twice.
 -- Assumes nothing.
 use native.Mathlib.Omega.{arith}
-use borrow.Author.Tests.{not-true, not-false}
 use Rattle.typing.proofs.Scopes.{second_fits_lem, wider_length}
 use Rattle.typing.proofs.Leaves.{doubled_long, bind_unfit, bind_twice, bind_passed}
 use Rattle.typing.proofs.cycle.bind.Goals as goal

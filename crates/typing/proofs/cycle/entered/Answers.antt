@@ -2,7 +2,6 @@
 -- Assumes nothing.
 use Rattle.book.proofs.Standing.{stands_begins}
 use Rattle.typing.proofs.Leaves.{after_assign, after_does}
-use borrow.Author.Rules.{rules}
 use Rattle.typing.proofs.cycle.entered.Goals as goal
 
 pub mark_at-requires : goal.mark_at-requires

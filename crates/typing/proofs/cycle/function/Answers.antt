@@ -4,7 +4,6 @@ use native.Mathlib.Omega.{arith}
 use Rattle.typing.proofs.Facts.{params_lie, params_most, gives_lies, body_lies, body_part}
 use Rattle.typing.proofs.Steps.{missing_length}
 use Rattle.typing.proofs.Leaves.{doubled_long, fun_live, no_enough, fun_twice, fun_halt, fun_then}
-use borrow.Author.Rules.{rules}
 use Rattle.typing.proofs.cycle.function.Goals as goal
 
 pub bounds-doubled-f : goal.bounds-doubled-f

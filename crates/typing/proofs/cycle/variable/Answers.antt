@@ -3,7 +3,6 @@
 use Rattle.book.specs.Format.{EV}
 use Rattle.book.proofs.Standing.{head_lies}
 use Rattle.typing.proofs.Leaves.{variable_none, variable_some}
-use borrow.Author.Rules.{rules}
 use Rattle.typing.proofs.cycle.variable.Goals as goal
 
 pub field_at-name-requires : goal.field_at-name-requires
