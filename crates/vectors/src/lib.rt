@@ -1,7 +1,7 @@
 // What the programs share that replay vectors: numbers in bytes, tables held against what is due, and the verdict.
 #![tactic(auto)]
 
-ghost use Rattle.std.specs.Prelude.{◌≡◌, true, ◌+◌, ◌*◌, ◌++◌, length, codes, OnOk};
+ghost use Rattle.std.specs.Prelude.{◌≡◌, ◌≤◌, true, ◌+◌, ◌*◌, ◌++◌, length, codes, OnOk};
 ghost use Rattle.std.specs.Io.KnownBytes.{Appends};
 ghost use Rattle.console.specs.Lines.{count_line};
 ghost use Rattle.vectors.specs.Tables.{Alike, AllFrom};
@@ -25,7 +25,9 @@ pub fn size_of(a: u8, b: u8, c: u8) -> usize
 
 // Whether a table begins with these bytes.
 pub fn begins_with(table: &[u8], due: &[u8]) -> bool
-    ensures { result ≡ true → Alike table.now due.now (length due.now) }
+    ensures begins { result ≡ true → Alike table.now due.now (length due.now) }
+    ensures fits { result ≡ true → length due.now ≤ length table.now }
+    ensures seen { length due.now ≤ length table.now → Alike table.now due.now (length due.now) → result ≡ true }
 {
     if table.len() < due.len() {
         return false;
@@ -40,7 +42,8 @@ pub fn begins_with(table: &[u8], due: &[u8]) -> bool
 
 // Whether a table is zero from a place on.
 pub fn is_zero_from(table: &[u8], from: usize) -> bool
-    ensures { result ≡ true → AllFrom 0 table.now from (length table.now) }
+    ensures zero { result ≡ true → AllFrom 0 table.now from (length table.now) }
+    ensures seen { AllFrom 0 table.now from (length table.now) → result ≡ true }
 {
     for k in from..table.len() {
         if table[k] != 0 {
