@@ -1,19 +1,38 @@
 // Checks a book on standard input, and prints how many records it has, or its refusal.
 #![tactic(auto)]
 
+ghost use Rattle.std.specs.Prelude.{OnOk, IfSome};
+ghost use Rattle.std.specs.Io.KnownBytes.{Appends};
+ghost use Rattle.typing.specs.Whole.{check_of};
+ghost use Rattle.checkbook.specs.Shown.{shown};
+
 use console::{print_count, print_refusal, read_full};
 use std::io;
+use std::io::{Read, Write};
 use typing::CheckAnswer;
 
 // One byte more than a book may have: a longer input is refused as such.
 const ROOM: usize = 65536;
 
-fn main(rt: HostRuntime) -> io::Result<()> {
-    let mut buffer = [0u8; ROOM];
-    let n = read_full(&mut rt.stdin(), &mut buffer)?;
-    let mut out = rt.stdout();
-    match typing::check(&buffer[..n]) {
-        CheckAnswer::Records(count) => print_count(&mut out, b"checked", count as u64),
-        CheckAnswer::Refused(why) => print_refusal(&mut out, why),
+// How many records there are, or the refusal.
+fn show<W: Write>(out: &mut W, answer: CheckAnswer) -> io::Result<()>
+    ensures { OnOk result (Appends (W.contents out.old) (W.contents out.new) (shown answer)) }
+{
+    match answer {
+        CheckAnswer::Records(count) => print_count(out, b"checked", count as u64),
+        CheckAnswer::Refused(why) => print_refusal(out, why),
     }
+}
+
+// CHECK's answer to the whole input.
+fn answer<R: Read, W: Write>(input: &mut R, out: &mut W) -> io::Result<()>
+    ensures { OnOk result (IfSome (R.remaining input.old) (λ book. Appends (W.contents out.old) (W.contents out.new) (shown (check_of book)))) }
+{
+    let mut buffer = [0u8; ROOM];
+    let n = read_full(input, &mut buffer)?;
+    show(out, typing::check(&buffer[..n]))
+}
+
+fn main(rt: HostRuntime) -> io::Result<()> {
+    answer(&mut rt.stdin(), &mut rt.stdout())
 }
