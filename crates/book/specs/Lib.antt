@@ -2,6 +2,7 @@ pub mod Faults
 pub mod Format
 pub mod Read
 pub mod Index
+pub mod Text
 pub mod Ready
 pub mod Valid
 pub mod Stands

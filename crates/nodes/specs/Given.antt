@@ -4,15 +4,7 @@ use Rattle.std.specs.Prelude.{ℕ, zero, suc, ◌+◌, ◌*◌, Bool, List, leng
 use Rattle.laws.specs.Table.{pick, both}
 use Rattle.book.specs.Format.{word_at, VALUE}
 use Rattle.book.specs.Index.{kind, field}
-
--- a book that READ accepts: its bytes, its index and the number of its records
-pub record Text : Type 0 where
-  pub bytes : List ℕ
-  pub index : List ℕ
-  pub records : ℕ
-
-abbrev pub text : List ℕ → List ℕ → ℕ → Text
-text b i n = record { bytes = b; index = i; records = n }
+use Rattle.book.specs.Text.{Text}
 
 -- whether r is a record of the book, and of the kind
 abbrev pub holds : Text → ℕ → ℕ → Bool
