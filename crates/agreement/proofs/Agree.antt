@@ -27,7 +27,8 @@ use Rattle.book.proofs.Standing.{stands_mark, stands_tree, head_stands, head_bel
 use Rattle.book.proofs.Types.{types_equal}
 use Rattle.named.specs.Combinators.{IDEN, UNIT, INJL, INJR, TAKE, DROP, COMP, CASE, PAIR, ASSERTL, ASSERTR, FAIL, WITNESS, SCRIBE, JET}
 use Rattle.cells.specs.Entries.{kind_at}
-use Rattle.nodes.specs.Given.{Text, Given, holds, typed, cell_of, entry_of, supplies}
+use Rattle.book.specs.Text.{Text}
+use Rattle.nodes.specs.Given.{Given, holds, typed, cell_of, entry_of, supplies}
 use Rattle.cells.specs.Cells.{left_cell, right_cell, pair_cell, shape_at, World, hold, newest, let_go, End, fails, refuses, Out, got, halt, add, bind, store, store_value, deliver}
 use Rattle.machine.specs.Run.{left_of, right_of, stuck_at, hand_on, witnessed, node_kinds, by_kind, run}
 use Rattle.agreement.specs.Agreement.{witnesses_of, Says, says_steep, says_witness, says_cells, says_stuck, says_jet}

@@ -16,7 +16,8 @@ use Rattle.book.specs.Tree.{value_of}
 use Rattle.book.specs.declared.fault.Fault.TheVariants.{Cells}
 use Rattle.named.specs.Cut.{room}
 use Rattle.cells.specs.Entries.{put}
-use Rattle.nodes.specs.Given.{Text, values_below}
+use Rattle.book.specs.Text.{Text}
+use Rattle.nodes.specs.Given.{values_below}
 use Rattle.cells.specs.Cells.{unit_cell, left_cell, right_cell, pair_cell, World, world, hold, newest, let_go, refuses, Out, got, halt, add, bind, store, store_value}
 use Rattle.agreement.proofs.Reading.{Back, back_put, back_unit, back_left, back_right, back_pair}
 

@@ -18,7 +18,8 @@ use Rattle.book.specs.declared.fault.Refusal.{Refusal}
 use Rattle.book.specs.declared.fault.ReadAnswer.{ReadAnswer}
 use Rattle.book.specs.declared.fault.ReadAnswer.TheVariants as reads
 use Rattle.book.proofs.Established.{answer_valid}
-use Rattle.nodes.specs.Given.{Text, text, Given, given}
+use Rattle.book.specs.Text.{Text, text}
+use Rattle.nodes.specs.Given.{Given, given}
 use Rattle.nodes.specs.Nodes.{Judged, well_formed, bad_at, judge}
 use Rattle.cells.specs.Cells.{world, fails, refuses, Out, got, halt, bind}
 use Rattle.machine.specs.Run.{DEEP, run}

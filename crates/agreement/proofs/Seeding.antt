@@ -19,7 +19,8 @@ use Rattle.book.specs.declared.fault.Fault.TheVariants.{Cells}
 use Rattle.book.proofs.Standing.{stands_mark, stands_tree, head_stands, head_below}
 use Rattle.named.specs.Cut.{room}
 use Rattle.cells.specs.Entries.{put}
-use Rattle.nodes.specs.Given.{Text, values_below, cell_of}
+use Rattle.book.specs.Text.{Text}
+use Rattle.nodes.specs.Given.{values_below, cell_of}
 use Rattle.cells.specs.Cells.{unit_cell, left_cell, right_cell, pair_cell, World, world, refuses, Out, got, halt, add, bind, store}
 use Rattle.run.specs.Whole.{part_of, seed, seed_one, seeds}
 use Rattle.agreement.proofs.Reading.{Back, back_unit, back_left, back_right, back_pair}

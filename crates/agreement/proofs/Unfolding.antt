@@ -15,7 +15,8 @@ use Rattle.book.specs.Format.{TYPE, VALUE}
 use Rattle.book.specs.Tree.{type_of, value_of}
 use Rattle.named.specs.Combinators.{IDEN, UNIT, INJL, INJR, TAKE, DROP, COMP, CASE, PAIR, ASSERTL, ASSERTR, FAIL, WITNESS, SCRIBE, JET}
 use Rattle.cells.specs.Entries.{kind_at}
-use Rattle.nodes.specs.Given.{Text, Given, holds}
+use Rattle.book.specs.Text.{Text}
+use Rattle.nodes.specs.Given.{Given, holds}
 use Rattle.nodes.specs.Nodes.{roles_of, fits, role_at, formed, first_bad, Judged, well_formed, bad_at, judge}
 use Rattle.machine.specs.Run.{left_of, right_of}
 use Rattle.agreement.specs.Unfold.{makers, term_to, term_at}

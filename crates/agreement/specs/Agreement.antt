@@ -11,7 +11,8 @@ use Rattle.book.specs.Tree.{value_of, declared_of}
 use Rattle.book.specs.declared.fault.Fault.{Fault}
 use Rattle.book.specs.declared.fault.Fault.TheVariants.{Steep, Witness, Cells, Stuck, Jet}
 use Rattle.book.specs.declared.fault.Refusal.{Refusal}
-use Rattle.nodes.specs.Given.{Text, Given, holds, entry_of}
+use Rattle.book.specs.Text.{Text}
+use Rattle.nodes.specs.Given.{Given, holds, entry_of}
 use Rattle.run.specs.Whole.{Result, valued, failing, refused}
 use Rattle.run.specs.declared.RunAnswer.{RunAnswer}
 use Rattle.run.specs.declared.RunAnswer.TheVariants as answers

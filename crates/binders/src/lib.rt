@@ -16,7 +16,7 @@ ghost use Rattle.binders.specs.Binders.{fits, names, type_for, scope_in};
 ghost use Rattle.binders.specs.Memos.{width_of, word_of, marked, Known, Marks, Fitted, Sights, Met, Nameless, Notes, Tallies, Bears, params_twice, Doubled, Repeats, Binds, scope_of, Live, Newest};
 
 use book::format::{FN, PI, PN, PT, TP};
-use book::record::{field_at, mark_at};
+use book::record::Book;
 use named::table::clear;
 use shapes::part::{NONE, is_unit, place};
 
@@ -72,17 +72,17 @@ fn mark(p: usize, t: usize, memo: &mut [u32])
 
 // Whether a pattern fits a type. What is found to fit is kept for later questions; what does not fit ends them all.
 #[cycle(fitting)]
-pub fn fits(book: &[u8], index: &[u16], p: u16, t: u16, memo: &mut [u32]) -> bool
-    requires { (Stands book.now index.now p PATTERN) × ((Stands book.now index.now t TYPE) × (Known book.now index.now memo.old)) }
-    ensures { Fitted book.now index.now (fits (pattern_of book.now index.now p) (type_of book.now index.now t)) result memo.new }
+pub fn fits(book: &Book, p: u16, t: u16, memo: &mut [u32]) -> bool
+    requires { (Stands book.now.bytes book.now.index p PATTERN) × ((Stands book.now.bytes book.now.index t TYPE) × (Known book.now.bytes book.now.index memo.old)) }
+    ensures { Fitted book.now.bytes book.now.index (fits (pattern_of book.now.bytes book.now.index p) (type_of book.now.bytes book.now.index t)) result memo.new }
 {
-    if mark_at(book, index, p) != PT {
+    if book.mark_at(p) != PT {
         return true;
     }
     if known(p as usize, t as usize, memo) {
         return true;
     }
-    if fits_row(book, index, p, t, memo) {
+    if fits_row(book, p, t, memo) {
         mark(p as usize, t as usize, memo);
         return true;
     }
@@ -91,22 +91,22 @@ pub fn fits(book: &[u8], index: &[u16], p: u16, t: u16, memo: &mut [u32]) -> boo
 
 // The same for a row: each element fits the type at its place.
 #[cycle(fitting)]
-fn fits_row(book: &[u8], index: &[u16], p: u16, t: u16, memo: &mut [u32]) -> bool
-    requires { (Stands book.now index.now p PATTERN) × ((mark book.now index.now p ≡ PT) × ((Stands book.now index.now t TYPE) × (Known book.now index.now memo.old))) }
-    ensures { Fitted book.now index.now (fits (pattern_of book.now index.now p) (type_of book.now index.now t)) result memo.new }
+fn fits_row(book: &Book, p: u16, t: u16, memo: &mut [u32]) -> bool
+    requires { (Stands book.now.bytes book.now.index p PATTERN) × ((mark book.now.bytes book.now.index p ≡ PT) × ((Stands book.now.bytes book.now.index t TYPE) × (Known book.now.bytes book.now.index memo.old))) }
+    ensures { Fitted book.now.bytes book.now.index (fits (pattern_of book.now.bytes book.now.index p) (type_of book.now.bytes book.now.index t)) result memo.new }
 {
-    let n = field_at(book, index, p, 0) as u32;
+    let n = book.field_at(p, 0) as u32;
     if n == 0 {
-        return is_unit(book, index, t);
+        return is_unit(book, t);
     }
     let mut k: u32 = 0;
     while k < n {
-        let part = field_at(book, index, p, 1 + (k as usize));
-        let s = place(book, index, TP, t, n, k);
+        let part = book.field_at(p, 1 + (k as usize));
+        let s = place(book, TP, t, n, k);
         if s == NONE {
             return false;
         }
-        if !fits(book, index, part, s, memo) {
+        if !fits(book, part, s, memo) {
             return false;
         }
         k += 1;
@@ -137,26 +137,19 @@ fn note(name: u16, met: &mut [u16], stamp: u16) -> Noted
 // Meets the names of a pattern: `nameless` has a 1 for each record that was found to have none. A record with names that is met
 // again leads straight to a name that was met.
 #[cycle(noting)]
-fn note_all(
-    book: &[u8],
-    index: &[u16],
-    p: u16,
-    met: &mut [u16],
-    stamp: u16,
-    nameless: &mut [u8],
-) -> Noted
-    requires { (Stands book.now index.now p PATTERN) × ((Met stamp met.old) × (Nameless book.now index.now nameless.old)) }
-    ensures { Tallies book.now index.now stamp (names (pattern_of book.now index.now p)) met.old result met.new nameless.new }
+fn note_all(book: &Book, p: u16, met: &mut [u16], stamp: u16, nameless: &mut [u8]) -> Noted
+    requires { (Stands book.now.bytes book.now.index p PATTERN) × ((Met stamp met.old) × (Nameless book.now.bytes book.now.index nameless.old)) }
+    ensures { Tallies book.now.bytes book.now.index stamp (names (pattern_of book.now.bytes book.now.index p)) met.old result met.new nameless.new }
 {
     if nameless[p as usize] == 1 {
         return Noted::Unnamed;
     }
-    let mark = mark_at(book, index, p);
+    let mark = book.mark_at(p);
     if mark == PT {
-        return note_row(book, index, p, met, stamp, nameless);
+        return note_row(book, p, met, stamp, nameless);
     }
     if mark == PI {
-        let name = field_at(book, index, p, 0);
+        let name = book.field_at(p, 0);
         return note(name, met, stamp);
     }
     Noted::Unnamed
@@ -164,23 +157,16 @@ fn note_all(
 
 // The same for a row: its elements one after another.
 #[cycle(noting)]
-fn note_row(
-    book: &[u8],
-    index: &[u16],
-    p: u16,
-    met: &mut [u16],
-    stamp: u16,
-    nameless: &mut [u8],
-) -> Noted
-    requires { (Stands book.now index.now p PATTERN) × ((mark book.now index.now p ≡ PT) × ((Met stamp met.old) × (Nameless book.now index.now nameless.old))) }
-    ensures { Tallies book.now index.now stamp (names (pattern_of book.now index.now p)) met.old result met.new nameless.new }
+fn note_row(book: &Book, p: u16, met: &mut [u16], stamp: u16, nameless: &mut [u8]) -> Noted
+    requires { (Stands book.now.bytes book.now.index p PATTERN) × ((mark book.now.bytes book.now.index p ≡ PT) × ((Met stamp met.old) × (Nameless book.now.bytes book.now.index nameless.old))) }
+    ensures { Tallies book.now.bytes book.now.index stamp (names (pattern_of book.now.bytes book.now.index p)) met.old result met.new nameless.new }
 {
-    let n = field_at(book, index, p, 0) as usize;
+    let n = book.field_at(p, 0) as usize;
     let mut any = false;
     let mut k: usize = 0;
     while k < n {
-        let part = field_at(book, index, p, 1 + k);
-        match note_all(book, index, part, met, stamp, nameless) {
+        let part = book.field_at(p, 1 + k);
+        match note_all(book, part, met, stamp, nameless) {
             Noted::Twice => {
                 return Noted::Twice;
             }
@@ -199,17 +185,17 @@ fn note_row(
 }
 
 // The record that has all names of a row: none, the one part of it that bears names, or the row itself.
-fn bearer(book: &[u8], index: &[u16], p: u16, nameless: &[u8]) -> u16
-    requires stands { Stands book.now index.now p PATTERN }
-    requires mark_is { mark book.now index.now p ≡ PT }
-    requires nameless { Nameless book.now index.now nameless.now }
-    ensures { Bears book.now index.now p result }
+fn bearer(book: &Book, p: u16, nameless: &[u8]) -> u16
+    requires stands { Stands book.now.bytes book.now.index p PATTERN }
+    requires mark_is { mark book.now.bytes book.now.index p ≡ PT }
+    requires nameless { Nameless book.now.bytes book.now.index nameless.now }
+    ensures { Bears book.now.bytes book.now.index p result }
 {
-    let n = field_at(book, index, p, 0) as usize;
+    let n = book.field_at(p, 0) as usize;
     let mut only = NONE;
     let mut k: usize = 0;
     while k < n {
-        let part = field_at(book, index, p, 1 + k);
+        let part = book.field_at(p, 1 + k);
         if nameless[part as usize] != 1 {
             if only != NONE {
                 return p;
@@ -223,22 +209,15 @@ fn bearer(book: &[u8], index: &[u16], p: u16, nameless: &[u8]) -> u16
 
 // Whether a row has a name twice. Where one part alone bears names, that part's answer is the row's, so that a chain of rows is not
 // walked again for each of them. The names are met with a stamp of the row's own.
-fn repeats(
-    book: &[u8],
-    index: &[u16],
-    p: u16,
-    met: &mut [u16],
-    nameless: &mut [u8],
-    doubled: &[u8],
-) -> bool
-    requires stands { Stands book.now index.now p PATTERN }
-    requires mark_is { mark book.now index.now p ≡ PT }
+fn repeats(book: &Book, p: u16, met: &mut [u16], nameless: &mut [u8], doubled: &[u8]) -> bool
+    requires stands { Stands book.now.bytes book.now.index p PATTERN }
+    requires mark_is { mark book.now.bytes book.now.index p ≡ PT }
     requires met { Met p met.old }
-    requires nameless { Nameless book.now index.now nameless.old }
-    requires doubled { Doubled book.now index.now p doubled.now }
-    ensures { Repeats book.now index.now p result met.new nameless.new }
+    requires nameless { Nameless book.now.bytes book.now.index nameless.old }
+    requires doubled { Doubled book.now.bytes book.now.index p doubled.now }
+    ensures { Repeats book.now.bytes book.now.index p result met.new nameless.new }
 {
-    let s = bearer(book, index, p, nameless);
+    let s = bearer(book, p, nameless);
     if s == NONE {
         nameless[p as usize] = 1;
         return false;
@@ -246,7 +225,7 @@ fn repeats(
     if s != p {
         return doubled[s as usize] == 1;
     }
-    match note_all(book, index, p, met, p + 1, nameless) {
+    match note_all(book, p, met, p + 1, nameless) {
         Noted::Twice => true,
         Noted::Named => false,
         Noted::Unnamed => false,
@@ -254,15 +233,15 @@ fn repeats(
 }
 
 // Whether a function's parameter list has a name twice. The names are met with a stamp of the function's own.
-fn params_repeat(book: &[u8], index: &[u16], f: u16, met: &mut [u16]) -> bool
-    requires stands { Stands book.now index.now f FUNCTION }
+fn params_repeat(book: &Book, f: u16, met: &mut [u16]) -> bool
+    requires stands { Stands book.now.bytes book.now.index f FUNCTION }
     requires met { Met f met.old }
-    ensures { (result ≡ params_twice book.now index.now f) × Met (f + 1) met.new }
+    ensures { (result ≡ params_twice book.now.bytes book.now.index f) × Met (f + 1) met.new }
 {
-    let n = field_at(book, index, f, 1) as usize;
+    let n = book.field_at(f, 1) as usize;
     let mut k: usize = 0;
     while k < n {
-        let name = field_at(book, index, f, 2 + 2 * k);
+        let name = book.field_at(f, 2 + 2 * k);
         match note(name, met, f + 1) {
             Noted::Twice => {
                 return true;
@@ -276,26 +255,19 @@ fn params_repeat(book: &[u8], index: &[u16], f: u16, met: &mut [u16]) -> bool
 }
 
 // Whether record r is a pattern or a function with a name twice. The stamps of the records before it are lower than its own.
-fn doubled_at(
-    book: &[u8],
-    index: &[u16],
-    r: u16,
-    met: &mut [u16],
-    nameless: &mut [u8],
-    doubled: &[u8],
-) -> bool
-    requires stands { Stands book.now index.now r (kind book.now index.now r) }
+fn doubled_at(book: &Book, r: u16, met: &mut [u16], nameless: &mut [u8], doubled: &[u8]) -> bool
+    requires stands { Stands book.now.bytes book.now.index r (kind book.now.bytes book.now.index r) }
     requires met { Met r met.old }
-    requires nameless { Nameless book.now index.now nameless.old }
-    requires doubled { Doubled book.now index.now r doubled.now }
-    ensures { Repeats book.now index.now r result met.new nameless.new }
+    requires nameless { Nameless book.now.bytes book.now.index nameless.old }
+    requires doubled { Doubled book.now.bytes book.now.index r doubled.now }
+    ensures { Repeats book.now.bytes book.now.index r result met.new nameless.new }
 {
-    let m = mark_at(book, index, r);
+    let m = book.mark_at(r);
     if m == PT {
-        return repeats(book, index, r, met, nameless, doubled);
+        return repeats(book, r, met, nameless, doubled);
     }
     if m == FN {
-        return params_repeat(book, index, r, met);
+        return params_repeat(book, r, met);
     }
     if m == PN {
         nameless[r as usize] = 1;
@@ -305,16 +277,16 @@ fn doubled_at(
 
 // Marks each of the first n records that is a pattern or a function with a name twice. It is worked out before they are judged, so that
 // one row of names serves the whole book. What is found to have no names is known to all patterns.
-pub fn doubles(book: &[u8], index: &[u16], n: u16, doubled: &mut [u8])
-    requires valid { Valid book.now index.now n }
+pub fn doubles(book: &Book, n: u16, doubled: &mut [u8])
+    requires valid { Valid book.now.bytes book.now.index n }
     requires doubled_is { doubled.old ≡ replicate 4096 0 }
-    ensures { Doubled book.now index.now n doubled.new }
+    ensures { Doubled book.now.bytes book.now.index n doubled.new }
 {
     let mut met = [0u16; 65536];
     let mut nameless = [0u8; 4096];
     let mut r: u16 = 0;
     while r < n {
-        if doubled_at(book, index, r, &mut met, &mut nameless, doubled) {
+        if doubled_at(book, r, &mut met, &mut nameless, doubled) {
             doubled[r as usize] = 1;
         }
         r += 1;
@@ -324,19 +296,19 @@ pub fn doubles(book: &[u8], index: &[u16], n: u16, doubled: &mut [u8])
 // The type of a name in a pattern that fits a type, at its first place from the left. `missing` has a 1 for each record in which this
 // name was already sought in vain.
 #[cycle(sighting)]
-fn type_in(book: &[u8], index: &[u16], p: u16, t: u16, name: u16, missing: &mut [u8]) -> u16
-    requires { (Binds book.now index.now p t) × (Memo book.now index.now name missing.old) }
-    ensures { Sights book.now index.now name (pattern_of book.now index.now p) (type_of book.now index.now t) result missing.new }
+fn type_in(book: &Book, p: u16, t: u16, name: u16, missing: &mut [u8]) -> u16
+    requires { (Binds book.now.bytes book.now.index p t) × (Memo book.now.bytes book.now.index name missing.old) }
+    ensures { Sights book.now.bytes book.now.index name (pattern_of book.now.bytes book.now.index p) (type_of book.now.bytes book.now.index t) result missing.new }
 {
     if missing[p as usize] == 1 {
         return NONE;
     }
-    let mark = mark_at(book, index, p);
+    let mark = book.mark_at(p);
     if mark == PT {
-        return type_in_row(book, index, p, t, name, missing);
+        return type_in_row(book, p, t, name, missing);
     }
     if mark == PI {
-        if field_at(book, index, p, 0) == name {
+        if book.field_at(p, 0) == name {
             return t;
         }
     }
@@ -345,37 +317,37 @@ fn type_in(book: &[u8], index: &[u16], p: u16, t: u16, name: u16, missing: &mut 
 
 // Whether a pattern may have a name: it is that name, or a row in which it was not sought in vain. Most elements of a wide row are
 // passed so, without the way down to their type.
-fn may_have(book: &[u8], index: &[u16], p: u16, name: u16, missing: &[u8]) -> bool
-    requires stands { Stands book.now index.now p PATTERN }
-    requires memo { Memo book.now index.now name missing.now }
-    ensures { result ≡ false → find name (pattern_of book.now index.now p) ≡ none }
+fn may_have(book: &Book, p: u16, name: u16, missing: &[u8]) -> bool
+    requires stands { Stands book.now.bytes book.now.index p PATTERN }
+    requires memo { Memo book.now.bytes book.now.index name missing.now }
+    ensures { result ≡ false → find name (pattern_of book.now.bytes book.now.index p) ≡ none }
 {
     if missing[p as usize] == 1 {
         return false;
     }
-    let mark = mark_at(book, index, p);
+    let mark = book.mark_at(p);
     if mark == PI {
-        return field_at(book, index, p, 0) == name;
+        return book.field_at(p, 0) == name;
     }
     mark == PT
 }
 
 // The same for a row: its elements one after another, each with the type at its place.
 #[cycle(sighting)]
-fn type_in_row(book: &[u8], index: &[u16], p: u16, t: u16, name: u16, missing: &mut [u8]) -> u16
-    requires { (Binds book.now index.now p t) × ((mark book.now index.now p ≡ PT) × (Memo book.now index.now name missing.old)) }
-    ensures { Sights book.now index.now name (pattern_of book.now index.now p) (type_of book.now index.now t) result missing.new }
+fn type_in_row(book: &Book, p: u16, t: u16, name: u16, missing: &mut [u8]) -> u16
+    requires { (Binds book.now.bytes book.now.index p t) × ((mark book.now.bytes book.now.index p ≡ PT) × (Memo book.now.bytes book.now.index name missing.old)) }
+    ensures { Sights book.now.bytes book.now.index name (pattern_of book.now.bytes book.now.index p) (type_of book.now.bytes book.now.index t) result missing.new }
 {
-    let n = field_at(book, index, p, 0) as u32;
+    let n = book.field_at(p, 0) as u32;
     let mut k: u32 = 0;
     while k < n {
-        let part = field_at(book, index, p, 1 + (k as usize));
-        if !may_have(book, index, part, name, missing) {
+        let part = book.field_at(p, 1 + (k as usize));
+        if !may_have(book, part, name, missing) {
             k += 1;
             continue;
         }
-        let s = place(book, index, TP, t, n, k);
-        let found = type_in(book, index, part, s, name, missing);
+        let s = place(book, TP, t, n, k);
+        let found = type_in(book, part, s, name, missing);
         if found != NONE {
             return found;
         }
@@ -386,15 +358,15 @@ fn type_in_row(book: &[u8], index: &[u16], p: u16, t: u16, name: u16, missing: &
 }
 
 // The type of a function's first parameter of a name.
-fn type_of_param(book: &[u8], index: &[u16], f: u16, name: u16) -> u16
-    requires { Stands book.now index.now f FUNCTION }
-    ensures { Gives book.now index.now (type_for name (scope_in (fun_of book.now index.now f))) result }
+fn type_of_param(book: &Book, f: u16, name: u16) -> u16
+    requires { Stands book.now.bytes book.now.index f FUNCTION }
+    ensures { Gives book.now.bytes book.now.index (type_for name (scope_in (fun_of book.now.bytes book.now.index f))) result }
 {
-    let n = field_at(book, index, f, 1) as usize;
+    let n = book.field_at(f, 1) as usize;
     let mut k: usize = 0;
     while k < n {
-        if field_at(book, index, f, 2 + 2 * k) == name {
-            return field_at(book, index, f, 3 + 2 * k);
+        if book.field_at(f, 2 + 2 * k) == name {
+            return book.field_at(f, 3 + 2 * k);
         }
         k += 1;
     }
@@ -404,17 +376,16 @@ fn type_of_param(book: &[u8], index: &[u16], f: u16, name: u16) -> u16
 // The type of a name in the row of live bindings, from the newest on. One row of what was sought in vain serves them all, since they
 // may share their parts.
 fn newest_type(
-    book: &[u8],
-    index: &[u16],
+    book: &Book,
     bindings: &[u16],
     live: usize,
     base: u16,
     name: u16,
     missing: &mut [u8],
 ) -> u16
-    requires live { Live book.now index.now bindings.now live base }
+    requires live { Live book.now.bytes book.now.index bindings.now live base }
     requires missing_length { length missing.old ≡ 4096 }
-    ensures { (Newest book.now index.now bindings.now live base name result) × (length missing.new ≡ 4096) }
+    ensures { (Newest book.now.bytes book.now.index bindings.now live base name result) × (length missing.new ≡ 4096) }
 {
     clear(missing);
     let mut at = live;
@@ -422,7 +393,7 @@ fn newest_type(
         at -= 1;
         let p = bindings[2 * at];
         let t = bindings[2 * at + 1];
-        let found = type_in(book, index, p, t, name, missing);
+        let found = type_in(book, p, t, name, missing);
         if found != NONE {
             return found;
         }
@@ -432,24 +403,23 @@ fn newest_type(
 
 // The type of a name in scope: of its newest binding, or in the base.
 pub fn type_for(
-    book: &[u8],
-    index: &[u16],
+    book: &Book,
     bindings: &[u16],
     live: usize,
     base: u16,
     name: u16,
     missing: &mut [u8],
 ) -> u16
-    requires live { Live book.now index.now bindings.now live base }
+    requires live { Live book.now.bytes book.now.index bindings.now live base }
     requires missing_length { length missing.old ≡ 4096 }
-    ensures { (Gives book.now index.now (type_for name (scope_of book.now index.now bindings.now live base)) result) × (length missing.new ≡ 4096) }
+    ensures { (Gives book.now.bytes book.now.index (type_for name (scope_of book.now.bytes book.now.index bindings.now live base)) result) × (length missing.new ≡ 4096) }
 {
-    let found = newest_type(book, index, bindings, live, base, name, missing);
+    let found = newest_type(book, bindings, live, base, name, missing);
     if found != NONE {
         return found;
     }
     if base == NONE {
         return NONE;
     }
-    type_of_param(book, index, base, name)
+    type_of_param(book, base, name)
 }

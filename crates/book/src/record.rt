@@ -20,7 +20,7 @@ impl<'a> Model for Book<'a> {
 }
 
 impl<'a> Book<'a> {
-    ghost use Rattle.std.specs.Prelude.{◌≡◌};
+    ghost use Rattle.std.specs.Prelude.{◌≡◌, ◌+◌};
     ghost use Rattle.book.specs.Index.{mark, field, Begins, Lies};
     ghost use Rattle.book.specs.Text.{text};
 
@@ -57,5 +57,17 @@ impl<'a> Book<'a> {
     {
         let at = self.index[r as usize] as usize;
         word(self.bytes, at + 2 + 2 * k)
+    }
+
+    // Fields k and k + 1 of record r.
+    pub fn pair_at(&self, r: u16, k: usize) -> (u16, u16)
+        requires first { Lies self.now.bytes self.now.index r k }
+        requires second { Lies self.now.bytes self.now.index r (k + 1) }
+        ensures first { result.0 ≡ field self.now.bytes self.now.index r k }
+        ensures second { result.1 ≡ field self.now.bytes self.now.index r (k + 1) }
+    {
+        // So k + 1 does not overflow.
+        prove!(k < self.bytes.len());
+        (self.field_at(r, k), self.field_at(r, k + 1))
     }
 }

@@ -10,6 +10,7 @@ ghost use Rattle.compile.specs.Whole.{trace_of, lower_of, table_of, Lowered};
 use crate::cycle::expression;
 use book::fault::{ReadAnswer, Refusal};
 use book::read::index_book;
+use book::record::Book;
 use named::node::Stored;
 use named::table::clear;
 use scope_bindings::{IGNORED, from_root};
@@ -31,28 +32,22 @@ pub fn lower(book: &[u8], symbols: bool, nodes: &mut [u8]) -> LowerAnswer
     let indexed = index_book(book);
     let answer = indexed.answer;
     match answer {
-        ReadAnswer::Records(n) => lower_root(book, &indexed.index, symbols, n - 1, nodes),
+        ReadAnswer::Records(n) => {
+            let opened = Book::new(book, &indexed.index, n);
+            lower_root(&opened, symbols, n - 1, nodes)
+        }
         ReadAnswer::Refused(w) => LowerAnswer::Refused(w),
     }
 }
 
 // The root expression, into a clear table.
-fn lower_root(book: &[u8], index: &[u16], symbols: bool, r: u16, nodes: &mut [u8]) -> LowerAnswer
-    requires stands { Stands book.now index.now r EXPRESSION }
+fn lower_root(book: &Book, symbols: bool, r: u16, nodes: &mut [u8]) -> LowerAnswer
+    requires stands { Stands book.now.bytes book.now.index r EXPRESSION }
     requires nodes_is { nodes.old ≡ replicate (length nodes.old) 0 }
-    ensures { Lowered (cut (room (length nodes.old)) (trace_of symbols book.now index.now r)) (length nodes.old) result nodes.new }
+    ensures { Lowered (cut (room (length nodes.old)) (trace_of symbols book.now.bytes book.now.index r)) (length nodes.old) result nodes.new }
 {
     let scope = from_root(IGNORED);
-    match expression(
-        book,
-        index,
-        symbols,
-        r,
-        &scope.bindings,
-        scope.count,
-        nodes,
-        0,
-    ) {
+    match expression(book, symbols, r, &scope.bindings, scope.count, nodes, 0) {
         Stored::Node { root: _, next: n } => LowerAnswer::Nodes(n),
         Stored::Refused(w) => {
             clear(nodes);

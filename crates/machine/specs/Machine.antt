@@ -4,7 +4,8 @@ use Rattle.std.specs.Prelude.{ℕ, zero, suc, ◌+◌, ◌*◌, ◌-◌, ◌≤�
 use Rattle.laws.specs.Table.{pick, at, choose}
 use Rattle.book.specs.Valid.{Valid}
 use Rattle.book.specs.declared.fault.Fault.TheVariants as faults
-use Rattle.nodes.specs.Given.{Text, Given, cell_of}
+use Rattle.book.specs.Text.{Text}
+use Rattle.nodes.specs.Given.{Given, cell_of}
 use Rattle.cells.specs.Cells.{left_cell, right_cell, pair_cell, World, world, newest, let_go, keeping, End, fails, refuses, Out, got, halt, add, bind, store}
 use Rattle.machine.specs.Run.{DEEP, Runs, right_of, run}
 use Rattle.cells.specs.Keeping.{leads}

@@ -6,10 +6,12 @@ ghost use Rattle.std.specs.Prelude.{◌≡◌, List, ℕ, ◌+◌, ◌≤◌, �
 ghost use Rattle.simplicity.specs.Jets.{jet_on};
 ghost use Rattle.cells.specs.Entries.{kind_at};
 ghost use Rattle.cells.specs.Cells.{shape_at, got, halt, deliver};
-ghost use Rattle.nodes.specs.Given.{Text, text, given};
+ghost use Rattle.book.specs.Text.{Text, text};
+ghost use Rattle.nodes.specs.Given.{given};
 ghost use Rattle.machine.specs.Run.{DEEP, hand_on, witnessed};
 ghost use Rattle.machine.specs.Machine.{Answers, Backs, Branches, Deep, Downed, Entered, Handed, Sound, Stopped, Turned, end_of, future, stack};
 
+use book::record::Book;
 use book::word::word;
 use cells::jets::{Jetted, run_jet};
 use cells::table::{Kept, LEFT, PAIR, RIGHT, from, keep, kind_at, left_at, right_at};
@@ -226,23 +228,21 @@ fn enter_case(
 
 // A witness: its name's entry, if it is of its type.
 fn enter_witness(
-    book: &[u8],
-    index: &[u16],
-    records: u16,
+    book: &Book,
     witnesses: &[u8],
     row: &[u16],
     nodes: &[u8],
     s: State,
 ) -> State
-    requires { Sound (text book.now index.now records) row.now }
-    ensures { Answers s (witnessed (given (text book.now index.now records) witnesses.now nodes.now) s.node) result }
+    requires { Sound book.now row.now }
+    ensures { Answers s (witnessed (given book.now witnesses.now nodes.now) s.node) result }
 {
     let at = 2 * (left_at(nodes, s.node) as usize);
     if at + 1 >= witnesses.len() {
         return end_with(s, WITNESS);
     }
     let r = word(witnesses, at);
-    if is_typed(book, index, records, r, right_at(nodes, s.node)) {
+    if is_typed(book, r, right_at(nodes, s.node)) {
         return back_with(s, entry(row, r));
     }
     end_with(s, WITNESS)
@@ -262,9 +262,7 @@ fn enter_jet(cells: &mut [u8], s: State, j: u16) -> State
 
 // Enters the node of the state.
 fn enter(
-    book: &[u8],
-    index: &[u16],
-    records: u16,
+    book: &Book,
     witnesses: &[u8],
     row: &[u16],
     nodes: &[u8],
@@ -274,10 +272,10 @@ fn enter(
     held: &mut [u16],
     s: State,
 ) -> State
-    requires sound { Sound (text book.now index.now records) row.now }
+    requires sound { Sound book.now row.now }
     requires deep { Deep (stack codes.old places.old held.old) }
     requires mode_is { (s.mode ≡ 0) × (s.depth ≤ DEEP) }
-    ensures { Turned (given (text book.now index.now records) witnesses.now nodes.now) cells.old (stack codes.old places.old held.old) s cells.new (stack codes.new places.new held.new) result }
+    ensures { Turned (given book.now witnesses.now nodes.now) cells.old (stack codes.old places.old held.old) s cells.new (stack codes.new places.new held.new) result }
 {
     if s.depth >= DEEPEST {
         return end_with(s, STEEP);
@@ -295,7 +293,7 @@ fn enter(
         9 => down(codes, places, held, s, BESIDE, x, left_at(nodes, n), x),
         8..=11 => enter_case(nodes, cells, codes, places, held, s, kind),
         12 => end_with(s, FAILED),
-        13 => enter_witness(book, index, records, witnesses, row, nodes, s),
+        13 => enter_witness(book, witnesses, row, nodes, s),
         14 => back_with(s, entry(row, left_at(nodes, n))),
         15 => enter_jet(cells, s, left_at(nodes, n)),
         _ => end_with(s, STUCK),
@@ -371,9 +369,7 @@ fn back(
 
 // Enters a node, or hands a cell back.
 fn turn(
-    book: &[u8],
-    index: &[u16],
-    records: u16,
+    book: &Book,
     witnesses: &[u8],
     row: &[u16],
     nodes: &[u8],
@@ -383,14 +379,14 @@ fn turn(
     held: &mut [u16],
     s: State,
 ) -> State
-    requires sound { Sound (text book.now index.now records) row.now }
+    requires sound { Sound book.now row.now }
     requires deep { Deep (stack codes.old places.old held.old) }
     requires mode_in_range { (s.mode < 2) × (s.depth ≤ DEEP) }
-    ensures { Turned (given (text book.now index.now records) witnesses.now nodes.now) cells.old (stack codes.old places.old held.old) s cells.new (stack codes.new places.new held.new) result }
+    ensures { Turned (given book.now witnesses.now nodes.now) cells.old (stack codes.old places.old held.old) s cells.new (stack codes.new places.new held.new) result }
 {
     if s.mode == ENTER {
         return enter(
-            book, index, records, witnesses, row, nodes, cells, codes, places, held, s,
+            book, witnesses, row, nodes, cells, codes, places, held, s,
         );
     }
     back(nodes, cells, codes, places, held, s)
@@ -398,9 +394,7 @@ fn turn(
 
 // Turns until the run has ended.
 pub fn drive(
-    book: &[u8],
-    index: &[u16],
-    records: u16,
+    book: &Book,
     witnesses: &[u8],
     row: &[u16],
     nodes: &[u8],
@@ -410,15 +404,15 @@ pub fn drive(
     held: &mut [u16],
     start: State,
 ) -> State
-    requires sound { Sound (text book.now index.now records) row.now }
+    requires sound { Sound book.now row.now }
     requires deep { Deep (stack codes.old places.old held.old) }
     requires start_depth_in_range { start.depth ≤ DEEP }
-    ensures { Stopped (future (given (text book.now index.now records) witnesses.now nodes.now) cells.old (stack codes.old places.old held.old) start) cells.new result }
+    ensures { Stopped (future (given book.now witnesses.now nodes.now) cells.old (stack codes.old places.old held.old) start) cells.new result }
 {
     let mut s = start;
     while s.mode < DONE {
         s = turn(
-            book, index, records, witnesses, row, nodes, cells, codes, places, held, s,
+            book, witnesses, row, nodes, cells, codes, places, held, s,
         );
     }
     s

@@ -25,7 +25,8 @@ use Rattle.typing.specs.Whole.{check_of}
 use Rattle.typing.specs.Typed.{TypedBook}
 use Rattle.typing.specs.declared.CheckAnswer.TheVariants as checks
 use Rattle.typing.proofs.Exactly.{passes_exactly}
-use Rattle.nodes.specs.Given.{Text, text, Given, given}
+use Rattle.book.specs.Text.{Text, text}
+use Rattle.nodes.specs.Given.{Given, given}
 use Rattle.run.specs.Whole.{run_of}
 use Rattle.run.specs.Whole as ran
 use Rattle.run.specs.declared.RunAnswer.{RunAnswer}

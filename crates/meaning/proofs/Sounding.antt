@@ -26,7 +26,8 @@ use Rattle.book.proofs.Standing.{stands_mark, stands_tree, head_stands, head_bel
 use Rattle.parts.proofs.Numbers.{from_low, power_is, bound_halved}
 use Rattle.shapes.specs.Shapes.{types}
 use Rattle.shapes.proofs.Declared.{value_declares}
-use Rattle.nodes.specs.Given.{Text, text, given, holds, entry_of, supplies}
+use Rattle.book.specs.Text.{Text, text}
+use Rattle.nodes.specs.Given.{given, holds, entry_of, supplies}
 use Rattle.agreement.specs.Agreement.{witnesses_of}
 use Rattle.typing.specs.Check.{arm_count}
 use Rattle.typing.specs.Typed.{TypedBook}

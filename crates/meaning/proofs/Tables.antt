@@ -20,7 +20,8 @@ use Rattle.named.specs.Cut.{Out, made, refused, cut, bytes, encode, room, image}
 use Rattle.named.proofs.Runs.{after_made}
 use Rattle.named.proofs.Images.{cut_fits}
 use Rattle.cells.specs.Entries.{kind_at, left_at, right_at}
-use Rattle.nodes.specs.Given.{Text, text, Given, given}
+use Rattle.book.specs.Text.{Text, text}
+use Rattle.nodes.specs.Given.{Given, given}
 use Rattle.nodes.specs.Nodes.{formed, first_bad, well_formed, judge}
 use Rattle.compile.specs.Lower.{lower}
 use Rattle.compile.specs.Whole.{trace_of, lowering, answer_of, lower_of, table_of}

@@ -15,7 +15,7 @@ use Rattle.compile.specs.declared.LowerAnswer.TheVariants as lowers
 use Rattle.shapes.specs.Shapes.{type_is}
 use Rattle.typing.specs.Whole.{check_of}
 use Rattle.typing.specs.declared.CheckAnswer.TheVariants as checks
-use Rattle.nodes.specs.Given.{text}
+use Rattle.book.specs.Text.{text}
 use Rattle.run.specs.Whole.{run_of}
 use Rattle.run.specs.Whole as ran
 use Rattle.run.specs.declared.RunAnswer.{RunAnswer}

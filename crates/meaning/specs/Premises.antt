@@ -4,7 +4,8 @@ use Rattle.std.specs.Prelude.{ℕ, ◌<◌, true, List, [], ◌≡◌}
 use Rattle.book.specs.Format.{EW, CH}
 use Rattle.book.specs.Index.{mark, field}
 use Rattle.book.specs.Read.{index_of}
-use Rattle.nodes.specs.Given.{text, given, supplies}
+use Rattle.book.specs.Text.{text}
+use Rattle.nodes.specs.Given.{given, supplies}
 
 -- document 01, CHECK and the meanings: each witness of the book finds an entry that is a value record of its declared type
 abbrev pub Supplied : List ℕ → ℕ → List ℕ → Type 0

@@ -15,7 +15,8 @@ use Rattle.book.specs.Valid.{Valid}
 use Rattle.book.specs.Stands.{Stands}
 use Rattle.book.proofs.Standing.{stands_mark, head_lies}
 use Rattle.cells.specs.Entries.{kind_at}
-use Rattle.nodes.specs.Given.{Text, holds}
+use Rattle.book.specs.Text.{Text}
+use Rattle.nodes.specs.Given.{holds}
 use Rattle.nodes.specs.Nodes.{FREE, CHILD, OFTYPE, OFVALUE, OFJET, NONE, roles, roles_of, fits, operand_at, role_at, operand_fits, formed, first_bad, bad_at, well_formed, judge}
 
 -- a record that is there is of the kind that its mark has

@@ -5,7 +5,8 @@ use Rattle.laws.specs.Table.{pick, both, at, choose}
 use Rattle.book.specs.Format.{TYPE, VALUE}
 use Rattle.named.specs.Combinators.{IDEN, UNIT, INJL, INJR, TAKE, DROP, COMP, CASE, PAIR, ASSERTL, ASSERTR, FAIL, WITNESS, SCRIBE, JET}
 use Rattle.cells.specs.Entries.{kind_at, left_at, right_at}
-use Rattle.nodes.specs.Given.{Text, holds}
+use Rattle.book.specs.Text.{Text}
+use Rattle.nodes.specs.Given.{holds}
 use Rattle.nodes.specs.declared.check.Verdict.{Verdict}
 use Rattle.nodes.specs.declared.check.Verdict.TheVariants as verdicts
 

@@ -1,9 +1,10 @@
 // The check of a node table: its first malformed node.
 ghost use Rattle.std.specs.Prelude.{◌≡◌, ◌<◌, ◌≤◌};
 ghost use Rattle.book.specs.Valid.{Valid};
-ghost use Rattle.nodes.specs.Given.{text};
+ghost use Rattle.book.specs.Text.{text};
 ghost use Rattle.nodes.specs.Nodes.{operand_at, role_at, fits, first_bad, judge, verdict_of};
 
+use book::record::Book;
 use crate::given::is_of;
 use book::format::{TYPE, VALUE};
 use cells::table::{kind_at, left_at, right_at};
@@ -77,24 +78,24 @@ fn operand(nodes: &[u8], n: u16, k: usize) -> u16
 }
 
 // Whether operand x of node n is what its role says.
-fn fits_role(book: &[u8], index: &[u16], records: u16, role: u8, n: u16, x: u16) -> bool
-    requires { Valid book.now index.now records }
-    ensures { result ≡ fits (text book.now index.now records) role n x }
+fn fits_role(book: &Book, role: u8, n: u16, x: u16) -> bool
+    requires { Valid book.now.bytes book.now.index book.now.records }
+    ensures { result ≡ fits book.now role n x }
 {
     match role {
         FREE => true,
         CHILD => x < n,
-        OF_TYPE => is_of(book, index, records, TYPE, x),
-        OF_VALUE => is_of(book, index, records, VALUE, x),
+        OF_TYPE => is_of(book, TYPE, x),
+        OF_VALUE => is_of(book, VALUE, x),
         OF_JET => x < 11,
         _ => false,
     }
 }
 
 // The first of `count` nodes with an operand that is not what its role says, or `count`.
-fn first_bad(book: &[u8], index: &[u16], records: u16, nodes: &[u8], count: u16) -> u16
-    requires { Valid book.now index.now records }
-    ensures { result ≡ first_bad (text book.now index.now records) nodes.now 0 count }
+fn first_bad(book: &Book, nodes: &[u8], count: u16) -> u16
+    requires { Valid book.now.bytes book.now.index book.now.records }
+    ensures { result ≡ first_bad book.now nodes.now 0 count }
 {
     let mut n: u16 = 0;
     'scan: loop {
@@ -104,7 +105,7 @@ fn first_bad(book: &[u8], index: &[u16], records: u16, nodes: &[u8], count: u16)
         let kind = kind_at(nodes, n);
         let mut k: usize = 0;
         while k < 2 {
-            if !fits_role(book, index, records, role(kind, k), n, operand(nodes, n, k)) {
+            if !fits_role(book, role(kind, k), n, operand(nodes, n, k)) {
                 break 'scan n;
             }
             k += 1;
@@ -114,9 +115,9 @@ fn first_bad(book: &[u8], index: &[u16], records: u16, nodes: &[u8], count: u16)
 }
 
 // The check of a table of `count` nodes.
-pub fn judge_table(book: &[u8], index: &[u16], records: u16, nodes: &[u8], count: u32) -> Verdict
-    requires { Valid book.now index.now records }
-    ensures { verdict_of result ≡ judge (text book.now index.now records) nodes.now count }
+pub fn judge_table(book: &Book, nodes: &[u8], count: u32) -> Verdict
+    requires { Valid book.now.bytes book.now.index book.now.records }
+    ensures { verdict_of result ≡ judge book.now nodes.now count }
 {
     if count == 0 {
         return Verdict::BadAt(0);
@@ -128,7 +129,7 @@ pub fn judge_table(book: &[u8], index: &[u16], records: u16, nodes: &[u8], count
     if present < (count as usize) {
         return Verdict::BadAt(present as u16);
     }
-    let bad = first_bad(book, index, records, nodes, count as u16);
+    let bad = first_bad(book, nodes, count as u16);
     if bad == (count as u16) {
         return Verdict::Well;
     }

@@ -1,29 +1,30 @@
 // What a run is given: records of the book by their kind, and the cells of its values.
 ghost use Rattle.std.specs.Prelude.{◌≡◌, get_or};
 ghost use Rattle.book.specs.Valid.{Valid};
-ghost use Rattle.nodes.specs.Given.{text, holds, typed};
+ghost use Rattle.book.specs.Text.{text};
+ghost use Rattle.nodes.specs.Given.{holds, typed};
 
 use book::format::{VALUE, kind_of};
-use book::record::{field_at, mark_at};
+use book::record::Book;
 
 // Whether r is a record of the book, and of the kind.
-pub fn is_of(book: &[u8], index: &[u16], records: u16, kind: u8, r: u16) -> bool
-    requires { Valid book.now index.now records }
-    ensures { result ≡ holds (text book.now index.now records) kind r }
+pub fn is_of(book: &Book, kind: u8, r: u16) -> bool
+    requires { Valid book.now.bytes book.now.index book.now.records }
+    ensures { result ≡ holds book.now kind r }
 {
-    if r < records {
-        return kind_of(mark_at(book, index, r)) == kind;
+    if r < book.records() {
+        return kind_of(book.mark_at(r)) == kind;
     }
     false
 }
 
 // Whether r is a value record of the type whose record is t.
-pub fn is_typed(book: &[u8], index: &[u16], records: u16, r: u16, t: u16) -> bool
-    requires { Valid book.now index.now records }
-    ensures { result ≡ typed (text book.now index.now records) r t }
+pub fn is_typed(book: &Book, r: u16, t: u16) -> bool
+    requires { Valid book.now.bytes book.now.index book.now.records }
+    ensures { result ≡ typed book.now r t }
 {
-    if is_of(book, index, records, VALUE, r) {
-        return field_at(book, index, r, 0) == t;
+    if is_of(book, VALUE, r) {
+        return book.field_at(r, 0) == t;
     }
     false
 }

@@ -9,7 +9,7 @@ ghost use Rattle.parts.specs.Joins.{empty_block, filled_block, blocks, matched, 
 ghost use Rattle.parts.specs.Parts.{Marked, Stated, Power, span_at, is_call, is_functional, symbol_at, gather_run, wrap_run, fold_run, plain_run, Widths, close_run, close_all};
 
 use book::format::{CA, CD, CH, CJ, CL, CN, CP, CQ, CR, CW, CY, E0, E1, EH, EL, EN, SA};
-use book::record::{field_at, mark_at};
+use book::record::Book;
 use builtins::array_fold::array_fold;
 use builtins::raw_hash::raw_hash;
 use named::build::{along, join};
@@ -22,22 +22,22 @@ use recipes::for_while::for_while;
 use recipes::list_fold::list_fold;
 
 // A constant: its value's record.
-pub fn constant(book: &[u8], index: &[u16], r: u16, nodes: &mut [u8], next: u16) -> Stored
-    requires { Marked book.now index.now r EC }
-    ensures { Done nodes.old next (scribe r (field book.now index.now r 1)) result nodes.new }
+pub fn constant(book: &Book, r: u16, nodes: &mut [u8], next: u16) -> Stored
+    requires { Marked book.now.bytes book.now.index r EC }
+    ensures { Done nodes.old next (scribe r (field book.now.bytes book.now.index r 1)) result nodes.new }
 {
-    let value = field_at(book, index, r, 1);
+    let value = book.field_at(r, 1);
     let pen = put(nodes, r, pen_at(next), SCRIBE, value, 0);
     answer_of(r, pen)
 }
 
 // A witness: its name and its type's record.
-pub fn witness(book: &[u8], index: &[u16], r: u16, nodes: &mut [u8], next: u16) -> Stored
-    requires { Marked book.now index.now r EW }
-    ensures { Done nodes.old next (witness r (field book.now index.now r 1) (field book.now index.now r 0)) result nodes.new }
+pub fn witness(book: &Book, r: u16, nodes: &mut [u8], next: u16) -> Stored
+    requires { Marked book.now.bytes book.now.index r EW }
+    ensures { Done nodes.old next (witness r (field book.now.bytes book.now.index r 1) (field book.now.bytes book.now.index r 0)) result nodes.new }
 {
-    let name = field_at(book, index, r, 1);
-    let of = field_at(book, index, r, 0);
+    let name = book.field_at(r, 1);
+    let of = book.field_at(r, 0);
     let pen = put(nodes, r, pen_at(next), WITNESS, name, of);
     answer_of(r, pen)
 }
@@ -106,8 +106,7 @@ fn list(
 
 // What joins the nodes of a record's elements: a list's blocks, a tree of cases, or a tree of pairs.
 pub fn gather(
-    book: &[u8],
-    index: &[u16],
+    book: &Book,
     r: u16,
     m: u8,
     roots: &[u16],
@@ -115,15 +114,15 @@ pub fn gather(
     nodes: &mut [u8],
     next: u16,
 ) -> Stored
-    requires marked { Marked book.now index.now r m }
-    requires count_is { count ≡ (span_at m (field book.now index.now r)).count }
+    requires marked { Marked book.now.bytes book.now.index r m }
+    requires count_is { count ≡ (span_at m (field book.now.bytes book.now.index r)).count }
     requires count_in_range { count ≤ 256 }
     requires count_fits { count ≤ length roots.now }
-    ensures { Done nodes.old next (gather_run book.now index.now r m (take count roots.now)) result nodes.new }
+    ensures { Done nodes.old next (gather_run book.now.bytes book.now.index r m (take count roots.now)) result nodes.new }
 {
     let pen = pen_at(next);
     if m == EL {
-        let bound = field_at(book, index, r, 1) as usize;
+        let bound = book.field_at(r, 1) as usize;
         let blocks = list(nodes, r, pen, roots, 0, count, bound / 2);
         return answer_of(r, blocks);
     }
@@ -136,12 +135,12 @@ pub fn gather(
 }
 
 // A variant: its payload along the path of its index.
-fn variant(book: &[u8], index: &[u16], r: u16, payload: u16, nodes: &mut [u8], next: u16) -> Stored
-    requires { Marked book.now index.now r EN }
-    ensures { Done nodes.old next (wrap_run book.now index.now r EN payload) result nodes.new }
+fn variant(book: &Book, r: u16, payload: u16, nodes: &mut [u8], next: u16) -> Stored
+    requires { Marked book.now.bytes book.now.index r EN }
+    ensures { Done nodes.old next (wrap_run book.now.bytes book.now.index r EN payload) result nodes.new }
 {
-    let k = field_at(book, index, r, 1) as u32;
-    let n = field_at(book, index, r, 2) as u32;
+    let k = book.field_at(r, 1) as u32;
+    let n = book.field_at(r, 2) as u32;
     let pen = Pen {
         next: next,
         root: payload,
@@ -152,17 +151,9 @@ fn variant(book: &[u8], index: &[u16], r: u16, payload: u16, nodes: &mut [u8], n
 }
 
 // What a record that is neither a match nor a call makes of its row's node.
-pub fn wrap(
-    book: &[u8],
-    index: &[u16],
-    r: u16,
-    m: u8,
-    inner: u16,
-    nodes: &mut [u8],
-    next: u16,
-) -> Stored
-    requires { Marked book.now index.now r m }
-    ensures { Done nodes.old next (wrap_run book.now index.now r m inner) result nodes.new }
+pub fn wrap(book: &Book, r: u16, m: u8, inner: u16, nodes: &mut [u8], next: u16) -> Stored
+    requires { Marked book.now.bytes book.now.index r m }
+    ensures { Done nodes.old next (wrap_run book.now.bytes book.now.index r m inner) result nodes.new }
 {
     match m {
         E0 => {
@@ -173,7 +164,7 @@ pub fn wrap(
             let right = put(nodes, r, pen_at(next), INJR, inner, 0);
             answer_of(r, right)
         }
-        EN => variant(book, index, r, inner, nodes, next),
+        EN => variant(book, r, inner, nodes, next),
         _ => Stored::Node {
             root: inner,
             next: next,
@@ -208,26 +199,25 @@ pub fn choose_arm(r: u16, scrutinee: u16, cases: u16, nodes: &mut [u8], next: u1
 }
 
 // The symbol of a call, 0 where its mark has none.
-fn symbol_of(book: &[u8], index: &[u16], r: u16, m: u8) -> u16
-    requires { Marked book.now index.now r m }
-    ensures { result ≡ symbol_at m (field book.now index.now r) }
+fn symbol_of(book: &Book, r: u16, m: u8) -> u16
+    requires { Marked book.now.bytes book.now.index r m }
+    ensures { result ≡ symbol_at m (field book.now.bytes book.now.index r) }
 {
     match m {
-        CJ => field_at(book, index, r, 1),
-        CL => field_at(book, index, r, 1),
-        CR => field_at(book, index, r, 1),
-        CD => field_at(book, index, r, 1),
-        CA => field_at(book, index, r, 1),
-        CP => field_at(book, index, r, 1),
-        CH => field_at(book, index, r, 1),
+        CJ => book.field_at(r, 1),
+        CL => book.field_at(r, 1),
+        CR => book.field_at(r, 1),
+        CD => book.field_at(r, 1),
+        CA => book.field_at(r, 1),
+        CP => book.field_at(r, 1),
+        CH => book.field_at(r, 1),
         _ => 0,
     }
 }
 
 // A call, after its arguments and its body: by way of an assert where its symbol is asked for.
 pub fn finish(
-    book: &[u8],
-    index: &[u16],
+    book: &Book,
     symbols: bool,
     r: u16,
     m: u8,
@@ -236,10 +226,10 @@ pub fn finish(
     nodes: &mut [u8],
     next: u16,
 ) -> Stored
-    requires { Marked book.now index.now r m }
-    ensures { Done nodes.old next (finished symbols r (symbol_at m (field book.now index.now r)) arguments body) result nodes.new }
+    requires { Marked book.now.bytes book.now.index r m }
+    ensures { Done nodes.old next (finished symbols r (symbol_at m (field book.now.bytes book.now.index r)) arguments body) result nodes.new }
 {
-    let symbol = symbol_of(book, index, r, m);
+    let symbol = symbol_of(book, r, m);
     if symbols {
         if 0 < symbol {
             let whole = with_symbol(nodes, r, pen_at(next), symbol, arguments, body);
@@ -251,42 +241,42 @@ pub fn finish(
 }
 
 // The bit widths of a hash's words, as a row.
-fn widths_of(book: &[u8], index: &[u16], r: u16, count: usize, widths: &mut [u16])
-    requires marked { Marked book.now index.now r CH }
-    requires count_is { count ≡ field book.now index.now r 2 }
+fn widths_of(book: &Book, r: u16, count: usize, widths: &mut [u16])
+    requires marked { Marked book.now.bytes book.now.index r CH }
+    requires count_is { count ≡ field book.now.bytes book.now.index r 2 }
     requires count_fits { count ≤ length widths.old }
-    ensures { Widths book.now index.now r count widths.new }
+    ensures { Widths book.now.bytes book.now.index r count widths.new }
 {
     let mut k: usize = 0;
     while k < count {
-        widths[k] = field_at(book, index, r, 3 + 2 * k);
+        widths[k] = book.field_at(r, 3 + 2 * k);
         k += 1;
     }
 }
 
 // The body of a hash.
-fn hash_body(book: &[u8], index: &[u16], r: u16, nodes: &mut [u8], next: u16) -> Stored
-    requires { Marked book.now index.now r CH }
-    ensures { Done nodes.old next (plain_run book.now index.now r CH) result nodes.new }
+fn hash_body(book: &Book, r: u16, nodes: &mut [u8], next: u16) -> Stored
+    requires { Marked book.now.bytes book.now.index r CH }
+    ensures { Done nodes.old next (plain_run book.now.bytes book.now.index r CH) result nodes.new }
 {
-    let count = field_at(book, index, r, 2) as usize;
+    let count = book.field_at(r, 2) as usize;
     let mut widths = [0u16; 256];
-    widths_of(book, index, r, count, &mut widths);
+    widths_of(book, r, count, &mut widths);
     let hash = raw_hash(nodes, r, pen_at(next), &widths, count);
     answer_of(r, hash)
 }
 
 // The body of a call that names no function.
-pub fn plain_body(book: &[u8], index: &[u16], r: u16, m: u8, nodes: &mut [u8], next: u16) -> Stored
-    requires marked { Marked book.now index.now r m }
+pub fn plain_body(book: &Book, r: u16, m: u8, nodes: &mut [u8], next: u16) -> Stored
+    requires marked { Marked book.now.bytes book.now.index r m }
     requires is_call_is { is_call m ≡ true }
     requires is_functional_is { is_functional m ≡ false }
-    ensures { Done nodes.old next (plain_run book.now index.now r m) result nodes.new }
+    ensures { Done nodes.old next (plain_run book.now.bytes book.now.index r m) result nodes.new }
 {
     let pen = pen_at(next);
     match m {
         CJ => {
-            let jet = field_at(book, index, r, 2);
+            let jet = book.field_at(r, 2);
             answer_of(r, put(nodes, r, pen, JET, jet, 0))
         }
         CL => answer_of(r, unwrap_left(nodes, r, pen)),
@@ -295,34 +285,26 @@ pub fn plain_body(book: &[u8], index: &[u16], r: u16, m: u8, nodes: &mut [u8], n
         CA => answer_of(r, put(nodes, r, pen, JET, 0, 0)),
         CP => answer_of(r, put(nodes, r, pen, FAIL, 0, 0)),
         CN => answer_of(r, is_none(nodes, r, pen)),
-        _ => hash_body(book, index, r, nodes, next),
+        _ => hash_body(book, r, nodes, next),
     }
 }
 
 // What a fold or a loop makes of its function's node; a plain call takes it as it is.
-pub fn fold_body(
-    book: &[u8],
-    index: &[u16],
-    r: u16,
-    m: u8,
-    body: u16,
-    nodes: &mut [u8],
-    next: u16,
-) -> Stored
-    requires { Marked book.now index.now r m }
-    ensures { Done nodes.old next (fold_run book.now index.now r m body) result nodes.new }
+pub fn fold_body(book: &Book, r: u16, m: u8, body: u16, nodes: &mut [u8], next: u16) -> Stored
+    requires { Marked book.now.bytes book.now.index r m }
+    ensures { Done nodes.old next (fold_run book.now.bytes book.now.index r m body) result nodes.new }
 {
     match m {
         CQ => {
-            let bound = field_at(book, index, r, 2);
+            let bound = book.field_at(r, 2);
             answer_of(r, list_fold(nodes, r, pen_at(next), bound, body))
         }
         CY => {
-            let size = field_at(book, index, r, 2);
+            let size = book.field_at(r, 2);
             answer_of(r, array_fold(nodes, r, pen_at(next), size, body))
         }
         CW => {
-            let width = field_at(book, index, r, 2);
+            let width = book.field_at(r, 2);
             answer_of(r, for_while(nodes, r, pen_at(next), width, body))
         }
         _ => Stored::Node {
@@ -333,19 +315,11 @@ pub fn fold_body(
 }
 
 // A statement, after the rest of its block.
-fn close(
-    book: &[u8],
-    index: &[u16],
-    s: u16,
-    begun: u16,
-    rest: u16,
-    nodes: &mut [u8],
-    next: u16,
-) -> Stored
-    requires { Stated book.now index.now s }
-    ensures { Done nodes.old next (close_run book.now index.now s begun rest) result nodes.new }
+fn close(book: &Book, s: u16, begun: u16, rest: u16, nodes: &mut [u8], next: u16) -> Stored
+    requires { Stated book.now.bytes book.now.index s }
+    ensures { Done nodes.old next (close_run book.now.bytes book.now.index s begun rest) result nodes.new }
 {
-    if mark_at(book, index, s) == SA {
+    if book.mark_at(s) == SA {
         return answer_of(s, put(nodes, s, pen_at(next), COMP, begun, rest));
     }
     answer_of(s, followed(nodes, s, pen_at(next), begun, rest))
@@ -353,8 +327,7 @@ fn close(
 
 // A block's statements, ended from the last on.
 pub fn close_all(
-    book: &[u8],
-    index: &[u16],
+    book: &Book,
     r: u16,
     begun: &[u16],
     count: usize,
@@ -362,18 +335,18 @@ pub fn close_all(
     nodes: &mut [u8],
     next: u16,
 ) -> Stored
-    requires marked { Marked book.now index.now r EB }
-    requires count_is { count ≡ field book.now index.now r 1 }
+    requires marked { Marked book.now.bytes book.now.index r EB }
+    requires count_is { count ≡ field book.now.bytes book.now.index r 1 }
     requires count_fits { count ≤ length begun.now }
-    ensures { Done nodes.old next (close_all book.now index.now r begun.now count end) result nodes.new }
+    ensures { Done nodes.old next (close_all book.now.bytes book.now.index r begun.now count end) result nodes.new }
 {
     let mut root = end;
     let mut at = next;
     let mut k = count;
     while 0 < k {
         k -= 1;
-        let s = field_at(book, index, r, 2 + k);
-        match close(book, index, s, begun[k], root, nodes, at) {
+        let s = book.field_at(r, 2 + k);
+        match close(book, s, begun[k], root, nodes, at) {
             Stored::Node { root: a, next: n } => {
                 root = a;
                 at = n;

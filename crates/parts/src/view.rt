@@ -4,7 +4,7 @@ ghost use Rattle.book.specs.Index.{field, Lies};
 ghost use Rattle.parts.specs.Parts.{Marked, Spanned, is_call, is_functional, span};
 
 use book::format::{CA, CD, CF, CH, CJ, CK, CL, CN, CQ, CR, CW, CY, E0, E1, EH, EL, EN, ET};
-use book::record::field_at;
+use book::record::Book;
 
 // Where the elements of a record stand: the field of the first, how far it is to the next, how many there are.
 #[derive(Clone, Copy)]
@@ -25,36 +25,36 @@ fn spanning(from: usize, stride: usize, count: usize) -> Span
 }
 
 // Elements as many as field k says.
-fn counted(book: &[u8], index: &[u16], r: u16, from: usize, stride: usize, k: usize) -> Span
-    requires { Lies book.now index.now r k }
-    ensures { result ≡ span from stride (field book.now index.now r k) }
+fn counted(book: &Book, r: u16, from: usize, stride: usize, k: usize) -> Span
+    requires { Lies book.now.bytes book.now.index r k }
+    ensures { result ≡ span from stride (field book.now.bytes book.now.index r k) }
 {
-    spanning(from, stride, field_at(book, index, r, k) as usize)
+    spanning(from, stride, book.field_at(r, k) as usize)
 }
 
 // The elements of a record that is lowered from a row of them.
-pub fn span_of(book: &[u8], index: &[u16], r: u16, m: u8) -> Span
-    requires { Marked book.now index.now r m }
-    ensures { Spanned book.now index.now r m result }
+pub fn span_of(book: &Book, r: u16, m: u8) -> Span
+    requires { Marked book.now.bytes book.now.index r m }
+    ensures { Spanned book.now.bytes book.now.index r m result }
 {
     match m {
-        ET => counted(book, index, r, 2, 1, 1),
-        EL => counted(book, index, r, 3, 1, 2),
+        ET => counted(book, r, 2, 1, 1),
+        EL => counted(book, r, 3, 1, 2),
         E0 => spanning(1, 1, 1),
         E1 => spanning(1, 1, 1),
-        EN => counted(book, index, r, 4, 1, 3),
-        EH => counted(book, index, r, 4, 2, 2),
-        CJ => counted(book, index, r, 4, 1, 3),
+        EN => counted(book, r, 4, 1, 3),
+        EH => counted(book, r, 4, 2, 2),
+        CJ => counted(book, r, 4, 1, 3),
         CL => spanning(2, 1, 1),
         CR => spanning(2, 1, 1),
         CD => spanning(2, 1, 1),
         CA => spanning(2, 1, 1),
         CN => spanning(1, 1, 1),
-        CF => counted(book, index, r, 3, 1, 2),
+        CF => counted(book, r, 3, 1, 2),
         CQ => spanning(3, 1, 2),
         CY => spanning(3, 1, 2),
         CW => spanning(3, 1, 2),
-        CH => counted(book, index, r, 4, 2, 2),
+        CH => counted(book, r, 4, 2, 2),
         _ => spanning(0, 1, 0),
     }
 }
@@ -87,14 +87,10 @@ pub struct Arm {
 }
 
 // The arm whose pattern is field k.
-pub fn arm_at(book: &[u8], index: &[u16], r: u16, k: usize) -> Arm
-    requires { (Lies book.now index.now r k) × (Lies book.now index.now r (k + 1)) }
-    ensures { (result.pattern ≡ field book.now index.now r k) × (result.body ≡ field book.now index.now r (k + 1)) }
+pub fn arm_at(book: &Book, r: u16, k: usize) -> Arm
+    requires { (Lies book.now.bytes book.now.index r k) × (Lies book.now.bytes book.now.index r (k + 1)) }
+    ensures { (result.pattern ≡ field book.now.bytes book.now.index r k) × (result.body ≡ field book.now.bytes book.now.index r (k + 1)) }
 {
-    let pattern = field_at(book, index, r, k);
-    let body = field_at(book, index, r, k + 1);
-    Arm {
-        pattern: pattern,
-        body: body,
-    }
+    let (pattern, body) = book.pair_at(r, k);
+    Arm { pattern, body }
 }

@@ -10,7 +10,7 @@ ghost use Rattle.pattern.specs.Find.{find, params_pattern, params_of};
 ghost use Rattle.pattern.specs.Seeks.{Seeks, Memo, Searches, Nears};
 
 use book::format::{PI, PT};
-use book::record::{field_at, mark_at};
+use book::record::Book;
 use named::build::along;
 use named::node::{DROP, IDEN, Pen, TAKE, put};
 
@@ -34,8 +34,7 @@ pub enum Near {
 // `missing` has a 1 for each record in which this name was already sought in vain, and no such record is entered again.
 #[cycle(seeking)]
 pub fn get_from(
-    book: &[u8],
-    index: &[u16],
+    book: &Book,
     p: u16,
     name: u16,
     missing: &mut [u8],
@@ -43,18 +42,18 @@ pub fn get_from(
     place: u16,
     pen: Pen,
 ) -> Sought
-    requires { (Stands book.now index.now p PATTERN) × (Memo book.now index.now name missing.old) }
-    ensures { Searches book.now index.now name (find name (pattern_of book.now index.now p)) place nodes.old pen result nodes.new missing.new }
+    requires { (Stands book.now.bytes book.now.index p PATTERN) × (Memo book.now.bytes book.now.index name missing.old) }
+    ensures { Searches book.now.bytes book.now.index name (find name (pattern_of book.now.bytes book.now.index p)) place nodes.old pen result nodes.new missing.new }
 {
     if missing[p as usize] == 1 {
         return Sought::Missing;
     }
-    let mark = mark_at(book, index, p);
+    let mark = book.mark_at(p);
     if mark == PT {
-        return get_row(book, index, p, name, missing, nodes, place, pen);
+        return get_row(book, p, name, missing, nodes, place, pen);
     }
     if mark == PI {
-        if field_at(book, index, p, 0) == name {
+        if book.field_at(p, 0) == name {
             return Sought::Drawn(put(nodes, place, pen, IDEN, 0, 0));
         }
     }
@@ -64,8 +63,7 @@ pub fn get_from(
 // The same for a row: its elements one after another. The steps to the element that has the name are drawn around what was found in it.
 #[cycle(seeking)]
 fn get_row(
-    book: &[u8],
-    index: &[u16],
+    book: &Book,
     p: u16,
     name: u16,
     missing: &mut [u8],
@@ -73,14 +71,14 @@ fn get_row(
     place: u16,
     pen: Pen,
 ) -> Sought
-    requires { (Stands book.now index.now p PATTERN) × ((mark book.now index.now p ≡ PT) × (Memo book.now index.now name missing.old)) }
-    ensures { Searches book.now index.now name (find name (pattern_of book.now index.now p)) place nodes.old pen result nodes.new missing.new }
+    requires { (Stands book.now.bytes book.now.index p PATTERN) × ((mark book.now.bytes book.now.index p ≡ PT) × (Memo book.now.bytes book.now.index name missing.old)) }
+    ensures { Searches book.now.bytes book.now.index name (find name (pattern_of book.now.bytes book.now.index p)) place nodes.old pen result nodes.new missing.new }
 {
-    let n = field_at(book, index, p, 0) as u32;
+    let n = book.field_at(p, 0) as u32;
     let mut k: u32 = 0;
     while k < n {
-        let part = field_at(book, index, p, 1 + (k as usize));
-        match get_from(book, index, part, name, missing, nodes, place, pen) {
+        let part = book.field_at(p, 1 + (k as usize));
+        match get_from(book, part, name, missing, nodes, place, pen) {
             Sought::Drawn(inner) => {
                 return Sought::Drawn(along(nodes, place, inner, TAKE, DROP, n, k));
             }
@@ -94,22 +92,14 @@ fn get_row(
 }
 
 // Searches a function's parameter tuple from the left.
-pub fn get_param(
-    book: &[u8],
-    index: &[u16],
-    f: u16,
-    name: u16,
-    nodes: &mut [u8],
-    place: u16,
-    pen: Pen,
-) -> Sought
-    requires { Stands book.now index.now f FUNCTION }
-    ensures { Seeks place nodes.old pen (find name (params_pattern (params_of (fun_of book.now index.now f)))) result nodes.new }
+pub fn get_param(book: &Book, f: u16, name: u16, nodes: &mut [u8], place: u16, pen: Pen) -> Sought
+    requires { Stands book.now.bytes book.now.index f FUNCTION }
+    ensures { Seeks place nodes.old pen (find name (params_pattern (params_of (fun_of book.now.bytes book.now.index f)))) result nodes.new }
 {
-    let n = field_at(book, index, f, 1) as u32;
+    let n = book.field_at(f, 1) as u32;
     let mut k: u32 = 0;
     while k < n {
-        if field_at(book, index, f, 2 + 2 * (k as usize)) == name {
+        if book.field_at(f, 2 + 2 * (k as usize)) == name {
             let inner = put(nodes, place, pen, IDEN, 0, 0);
             return Sought::Drawn(along(nodes, place, inner, TAKE, DROP, n, k));
         }
@@ -120,43 +110,27 @@ pub fn get_param(
 
 // Searches a pattern that nests no row in a row, as most do. Each of its places is one field, so nothing need be remembered, and no row
 // has to be cleared for each name.
-pub fn get_shallow(
-    book: &[u8],
-    index: &[u16],
-    p: u16,
-    name: u16,
-    nodes: &mut [u8],
-    place: u16,
-    pen: Pen,
-) -> Near
-    requires { Stands book.now index.now p PATTERN }
-    ensures { Nears place nodes.old pen (find name (pattern_of book.now index.now p)) result nodes.new }
+pub fn get_shallow(book: &Book, p: u16, name: u16, nodes: &mut [u8], place: u16, pen: Pen) -> Near
+    requires { Stands book.now.bytes book.now.index p PATTERN }
+    ensures { Nears place nodes.old pen (find name (pattern_of book.now.bytes book.now.index p)) result nodes.new }
 {
-    if mark_at(book, index, p) == PT {
-        return get_among(book, index, p, name, nodes, place, pen);
+    if book.mark_at(p) == PT {
+        return get_among(book, p, name, nodes, place, pen);
     }
-    get_single(book, index, p, name, nodes, place, pen)
+    get_single(book, p, name, nodes, place, pen)
 }
 
 // The elements of a row from the left, up to the first that is a row itself.
-fn get_among(
-    book: &[u8],
-    index: &[u16],
-    p: u16,
-    name: u16,
-    nodes: &mut [u8],
-    place: u16,
-    pen: Pen,
-) -> Near
-    requires stands { Stands book.now index.now p PATTERN }
-    requires mark_is { mark book.now index.now p ≡ PT }
-    ensures { Nears place nodes.old pen (find name (pattern_of book.now index.now p)) result nodes.new }
+fn get_among(book: &Book, p: u16, name: u16, nodes: &mut [u8], place: u16, pen: Pen) -> Near
+    requires stands { Stands book.now.bytes book.now.index p PATTERN }
+    requires mark_is { mark book.now.bytes book.now.index p ≡ PT }
+    ensures { Nears place nodes.old pen (find name (pattern_of book.now.bytes book.now.index p)) result nodes.new }
 {
-    let n = field_at(book, index, p, 0) as u32;
+    let n = book.field_at(p, 0) as u32;
     let mut k: u32 = 0;
     while k < n {
-        let part = field_at(book, index, p, 1 + (k as usize));
-        match get_single(book, index, part, name, nodes, place, pen) {
+        let part = book.field_at(p, 1 + (k as usize));
+        match get_single(book, part, name, nodes, place, pen) {
             Near::Drawn(inner) => {
                 return Near::Drawn(along(nodes, place, inner, TAKE, DROP, n, k));
             }
@@ -172,24 +146,16 @@ fn get_among(
 }
 
 // A pattern that is no row: a name, or nothing named.
-fn get_single(
-    book: &[u8],
-    index: &[u16],
-    p: u16,
-    name: u16,
-    nodes: &mut [u8],
-    place: u16,
-    pen: Pen,
-) -> Near
-    requires { Stands book.now index.now p PATTERN }
-    ensures { Nears place nodes.old pen (find name (pattern_of book.now index.now p)) result nodes.new }
+fn get_single(book: &Book, p: u16, name: u16, nodes: &mut [u8], place: u16, pen: Pen) -> Near
+    requires { Stands book.now.bytes book.now.index p PATTERN }
+    ensures { Nears place nodes.old pen (find name (pattern_of book.now.bytes book.now.index p)) result nodes.new }
 {
-    let mark = mark_at(book, index, p);
+    let mark = book.mark_at(p);
     if mark == PT {
         return Near::Nested;
     }
     if mark == PI {
-        if field_at(book, index, p, 0) == name {
+        if book.field_at(p, 0) == name {
             return Near::Drawn(put(nodes, place, pen, IDEN, 0, 0));
         }
     }

@@ -25,7 +25,8 @@ use Rattle.run.specs.declared.RunAnswer.{RunAnswer}
 use Rattle.run.specs.declared.RunAnswer.TheVariants as answers
 use Rattle.nodes.specs.declared.check.Verdict.{Verdict}
 use Rattle.nodes.specs.declared.check.Verdict.TheVariants as verdicts
-use Rattle.nodes.specs.Given.{Text, text, Given, given}
+use Rattle.book.specs.Text.{Text, text}
+use Rattle.nodes.specs.Given.{Given, given}
 use Rattle.nodes.specs.Nodes.{Judged, well_formed, bad_at, judge, verdict_of}
 use Rattle.cells.specs.Cells.{world, fails, refuses, Out, got, halt, add, bind}
 use Rattle.cells.specs.Keeping.{leads}

@@ -19,7 +19,8 @@ use Rattle.book.proofs.Standing.{stands_mark}
 use Rattle.book.proofs.Course.{zeros}
 use Rattle.book.proofs.Judging.{up_to}
 use Rattle.cells.specs.Cells.{unit_cell, left_cell, right_cell, pair_cell, World, Out, got, halt, add, bind, store}
-use Rattle.nodes.specs.Given.{Text, holds, values_below, cell_of}
+use Rattle.book.specs.Text.{Text}
+use Rattle.nodes.specs.Given.{holds, values_below, cell_of}
 use Rattle.cells.specs.Keeping.{leads, Fresh, Keeps}
 use Rattle.run.specs.Whole.{part_of, seed, seed_one, seeds}
 use Rattle.machine.specs.Machine.{Placed}

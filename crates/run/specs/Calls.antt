@@ -1,7 +1,7 @@
 -- What the parts of the call say: the initial cells, and the answer beside the cells.
 -- Assumes nothing.
 use Rattle.std.specs.Prelude.{ℕ, ◌≡◌, List}
-use Rattle.nodes.specs.Given.{Text}
+use Rattle.book.specs.Text.{Text}
 use Rattle.cells.specs.Cells.{World, world, Out, bind}
 use Rattle.cells.specs.Keeping.{leads}
 use Rattle.cells.specs.declared.table.Kept.{Kept}

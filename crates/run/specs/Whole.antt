@@ -9,7 +9,8 @@ use Rattle.book.specs.Faults.{refusal}
 use Rattle.book.specs.declared.fault.Fault.TheVariants.{Nodes}
 use Rattle.book.specs.declared.fault.Refusal.{Refusal}
 use Rattle.book.specs.declared.fault.ReadAnswer.TheVariants as reads
-use Rattle.nodes.specs.Given.{Text, text, Given, given, cell_of}
+use Rattle.book.specs.Text.{Text, text}
+use Rattle.nodes.specs.Given.{Given, given, cell_of}
 use Rattle.nodes.specs.Nodes.{Judged, well_formed, bad_at, judge}
 use Rattle.cells.specs.Cells.{unit_cell, left_cell, right_cell, pair_cell, World, world, fails, refuses, Out, got, halt, bind, store}
 use Rattle.machine.specs.Run.{DEEP, run}

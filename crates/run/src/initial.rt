@@ -3,26 +3,27 @@ ghost use Rattle.std.specs.Prelude.{◌≡◌, ◌<◌, get_or, replicate, true}
 ghost use Rattle.book.specs.Format.{VALUE};
 ghost use Rattle.book.specs.Index.{Lies, field};
 ghost use Rattle.book.specs.Valid.{Valid};
-ghost use Rattle.nodes.specs.Given.{text, holds};
+ghost use Rattle.book.specs.Text.{text};
+ghost use Rattle.nodes.specs.Given.{holds};
 ghost use Rattle.run.specs.Whole.{seed, seed_one};
 ghost use Rattle.machine.specs.Machine.{Placed, Sound};
 ghost use Rattle.run.specs.Calls.{Seeded, Started};
 
 use book::format::{VALUE, VL, VR, VU};
-use book::record::{field_at, mark_at};
+use book::record::Book;
 use cells::table::{Kept, LEFT, PAIR, RIGHT, UNIT, from, keep};
 use nodes::given::{entry, is_of};
 
 // The cell of each value record into a row of zeros: they are numbered from 1.
-pub fn number_values(book: &[u8], index: &[u16], records: u16, row: &mut [u16])
-    requires valid { Valid book.now index.now records }
+pub fn number_values(book: &Book, row: &mut [u16])
+    requires valid { Valid book.now.bytes book.now.index book.now.records }
     requires row_is { row.old ≡ replicate 4096 0 }
-    ensures { Placed (text book.now index.now records) row.new }
+    ensures { Placed book.now row.new }
 {
     let mut next: u16 = 1;
     let mut r: u16 = 0;
-    while r < records {
-        if is_of(book, index, records, VALUE, r) {
+    while r < book.records() {
+        if is_of(book, VALUE, r) {
             row[r as usize] = next;
             next += 1;
         }
@@ -31,70 +32,66 @@ pub fn number_values(book: &[u8], index: &[u16], records: u16, row: &mut [u16])
 }
 
 // The cell of the value that field k of record r names.
-fn part(book: &[u8], index: &[u16], row: &[u16], r: u16, k: usize) -> u16
-    requires { Lies book.now index.now r k }
-    ensures { result ≡ get_or row.now (field book.now index.now r k) 0 }
+fn part(book: &Book, row: &[u16], r: u16, k: usize) -> u16
+    requires { Lies book.now.bytes book.now.index r k }
+    ensures { result ≡ get_or row.now (field book.now.bytes book.now.index r k) 0 }
 {
-    entry(row, field_at(book, index, r, k))
+    entry(row, book.field_at(r, k))
 }
 
 // The cell of value record r.
 fn seed_value(
-    book: &[u8],
-    index: &[u16],
-    records: u16,
+    book: &Book,
     row: &[u16],
     r: u16,
     cells: &mut [u8],
     p: Kept,
 ) -> Kept
-    requires sound { Sound (text book.now index.now records) row.now }
-    requires holds_is { holds (text book.now index.now records) VALUE r ≡ true }
-    ensures { Seeded cells.old p (λ v. seed (text book.now index.now records) r) result cells.new }
+    requires sound { Sound book.now row.now }
+    requires holds_is { holds book.now VALUE r ≡ true }
+    ensures { Seeded cells.old p (λ v. seed book.now r) result cells.new }
 {
-    match mark_at(book, index, r) {
+    match book.mark_at(r) {
         VU => keep(cells, p, UNIT, 0, 0),
-        VL => keep(cells, p, LEFT, part(book, index, row, r, 1), 0),
-        VR => keep(cells, p, RIGHT, part(book, index, row, r, 1), 0),
+        VL => keep(cells, p, LEFT, part(book, row, r, 1), 0),
+        VR => keep(cells, p, RIGHT, part(book, row, r, 1), 0),
         _ => keep(
             cells,
             p,
             PAIR,
-            part(book, index, row, r, 1),
-            part(book, index, row, r, 2),
+            part(book, row, r, 1),
+            part(book, row, r, 2),
         ),
     }
 }
 
 // The cell of record r, if it is a value.
 fn seed_one(
-    book: &[u8],
-    index: &[u16],
-    records: u16,
+    book: &Book,
     row: &[u16],
     r: u16,
     cells: &mut [u8],
     p: Kept,
 ) -> Kept
-    requires sound { Sound (text book.now index.now records) row.now }
-    requires r_in_range { r < records }
-    ensures { Seeded cells.old p (seed_one (text book.now index.now records) r) result cells.new }
+    requires sound { Sound book.now row.now }
+    requires r_in_range { r < book.now.records }
+    ensures { Seeded cells.old p (seed_one book.now r) result cells.new }
 {
-    if is_of(book, index, records, VALUE, r) {
-        return seed_value(book, index, records, row, r, cells, p);
+    if is_of(book, VALUE, r) {
+        return seed_value(book, row, r, cells, p);
     }
     p
 }
 
 // Cell 0 and the values' cells.
-pub fn seed_cells(book: &[u8], index: &[u16], records: u16, row: &[u16], cells: &mut [u8]) -> Kept
-    requires { Sound (text book.now index.now records) row.now }
-    ensures { Started (text book.now index.now records) records cells.old result cells.new }
+pub fn seed_cells(book: &Book, row: &[u16], cells: &mut [u8]) -> Kept
+    requires { Sound book.now row.now }
+    ensures { Started book.now book.now.records cells.old result cells.new }
 {
     let mut p = keep(cells, from(0), UNIT, 0, 0);
     let mut r: u16 = 0;
-    while r < records {
-        p = seed_one(book, index, records, row, r, cells, p);
+    while r < book.records() {
+        p = seed_one(book, row, r, cells, p);
         r += 1;
     }
     p

@@ -4,12 +4,14 @@
 ghost use Rattle.std.specs.Prelude.{◌≡◌, ℕ, ◌≤◌, ◌<◌, length, replicate, List, []};
 ghost use Rattle.book.specs.Valid.{Valid};
 ghost use Rattle.cells.specs.Cells.{world, refuses};
-ghost use Rattle.nodes.specs.Given.{text, given};
+ghost use Rattle.book.specs.Text.{text};
+ghost use Rattle.nodes.specs.Given.{given};
 ghost use Rattle.machine.specs.Run.{DEEP, run};
 ghost use Rattle.run.specs.Whole.{ended, result_of, after_read, run_of, table_of};
 ghost use Rattle.run.specs.Calls.{Answered};
 ghost use Rattle.machine.specs.Machine.{Sound, Stopped, end_of, over_at};
 
+use book::record::Book;
 use crate::initial::{number_values, seed_cells};
 use book::fault::{Fault, ReadAnswer, Refusal};
 use book::read::index_book;
@@ -35,27 +37,28 @@ pub fn run(book: &[u8], witnesses: &[u8], nodes: &[u8], count: u32, cells: &mut 
     let indexed = index_book(book);
     let answer = indexed.answer;
     match answer {
-        ReadAnswer::Records(n) => run_read(book, &indexed.index, n, witnesses, nodes, count, cells),
+        ReadAnswer::Records(n) => {
+            let opened = Book::new(book, &indexed.index, n);
+            run_read(&opened, witnesses, nodes, count, cells)
+        }
         ReadAnswer::Refused(w) => RunAnswer::Refused(w),
     }
 }
 
 // The same once the book is read, over zero cells.
 fn run_read(
-    book: &[u8],
-    index: &[u16],
-    records: u16,
+    book: &Book,
     witnesses: &[u8],
     nodes: &[u8],
     count: u32,
     cells: &mut [u8],
 ) -> RunAnswer
-    requires valid { Valid book.now index.now records }
+    requires valid { Valid book.now.bytes book.now.index book.now.records }
     requires cells_is { cells.old ≡ replicate (length cells.old) 0 }
-    ensures { Answered (after_read (given (text book.now index.now records) witnesses.now nodes.now) count (length cells.old)) (length cells.old) result cells.new }
+    ensures { Answered (after_read (given book.now witnesses.now nodes.now) count (length cells.old)) (length cells.old) result cells.new }
 {
-    match judge_table(book, index, records, nodes, count) {
-        Verdict::Well => run_table(book, index, records, witnesses, nodes, count, cells),
+    match judge_table(book, nodes, count) {
+        Verdict::Well => run_table(book, witnesses, nodes, count, cells),
         Verdict::BadAt(p) => RunAnswer::Refused(Refusal {
             fault: Fault::Nodes,
             place: p,
@@ -65,22 +68,20 @@ fn run_read(
 
 // The same once the table is checked: the initial cells, then the last node on cell 0.
 fn run_table(
-    book: &[u8],
-    index: &[u16],
-    records: u16,
+    book: &Book,
     witnesses: &[u8],
     nodes: &[u8],
     count: u32,
     cells: &mut [u8],
 ) -> RunAnswer
-    requires valid { Valid book.now index.now records }
+    requires valid { Valid book.now.bytes book.now.index book.now.records }
     requires cells_is { cells.old ≡ replicate (length cells.old) 0 }
     requires count_in_range { (0 < count) × (count ≤ 65535) }
-    ensures { Answered (result_of (ended (given (text book.now index.now records) witnesses.now nodes.now) count (length cells.old))) (length cells.old) result cells.new }
+    ensures { Answered (result_of (ended (given book.now witnesses.now nodes.now) count (length cells.old))) (length cells.old) result cells.new }
 {
     let mut row = [0u16; 4096];
-    number_values(book, index, records, &mut row);
-    let p = seed_cells(book, index, records, &row, cells);
+    number_values(book, &mut row);
+    let p = seed_cells(book, &row, cells);
     if p.full {
         clear(cells);
         return RunAnswer::Refused(Refusal {
@@ -90,8 +91,6 @@ fn run_table(
     }
     let s = run_machine(
         book,
-        index,
-        records,
         witnesses,
         &row,
         nodes,
@@ -104,9 +103,7 @@ fn run_table(
 
 // The machine's end, from node `last` on cell 0.
 fn run_machine(
-    book: &[u8],
-    index: &[u16],
-    records: u16,
+    book: &Book,
     witnesses: &[u8],
     row: &[u16],
     nodes: &[u8],
@@ -114,8 +111,8 @@ fn run_machine(
     last: u16,
     used: u16,
 ) -> State
-    requires { Sound (text book.now index.now records) row.now }
-    ensures { Stopped (run DEEP (given (text book.now index.now records) witnesses.now nodes.now) last 0 (world used cells.old [])) cells.new result }
+    requires { Sound book.now row.now }
+    ensures { Stopped (run DEEP (given book.now witnesses.now nodes.now) last 0 (world used cells.old [])) cells.new result }
 {
     let mut codes = [0u8; 4096];
     let mut places = [0u16; 4096];
@@ -129,8 +126,6 @@ fn run_machine(
     };
     drive(
         book,
-        index,
-        records,
         witnesses,
         row,
         nodes,

@@ -10,7 +10,7 @@ ghost use Rattle.scope_bindings.specs.Scope.{reach, lookup, lookup_below, variab
 
 use book::fault::{Fault, Refusal};
 use book::format::FN;
-use book::record::mark_at;
+use book::record::Book;
 use named::node::{DROP, Pen, Stored, TAKE, answer_of, pen_at, put};
 use pattern::{Near, Sought, get_from, get_param, get_shallow};
 
@@ -68,8 +68,7 @@ pub fn copied(bindings: &[u16], count: usize) -> ScopeBindings
 
 // The selector of a name in a scope, or a refusal where the name is not in scope.
 pub fn get(
-    book: &[u8],
-    index: &[u16],
+    book: &Book,
     bindings: &[u16],
     count: usize,
     name: u16,
@@ -77,11 +76,11 @@ pub fn get(
     place: u16,
     next: u16,
 ) -> Stored
-    requires { ScopeStands book.now index.now (lent bindings.now count) }
-    ensures { Done nodes.old next (variable place name (scope_of book.now index.now (lent bindings.now count))) result nodes.new }
+    requires { ScopeStands book.now.bytes book.now.index (lent bindings.now count) }
+    ensures { Done nodes.old next (variable place name (scope_of book.now.bytes book.now.index (lent bindings.now count))) result nodes.new }
 {
     let pen = pen_at(next);
-    match get_near(book, index, bindings, count, name, nodes, place, pen) {
+    match get_near(book, bindings, count, name, nodes, place, pen) {
         Sought::Drawn(found) => answer_of(place, found),
         Sought::Missing => Stored::Refused(Refusal {
             fault: Fault::Undefined,
@@ -94,8 +93,7 @@ pub fn get(
 // row for each name and to ask it was nearly half of lowering a block of 200 bindings. The first binding that has a row within a row is
 // searched anew, with a row.
 fn get_near(
-    book: &[u8],
-    index: &[u16],
+    book: &Book,
     bindings: &[u16],
     count: usize,
     name: u16,
@@ -103,20 +101,20 @@ fn get_near(
     place: u16,
     pen: Pen,
 ) -> Sought
-    requires { ScopeStands book.now index.now (lent bindings.now count) }
-    ensures { Seeks place nodes.old pen (lookup name (scope_of book.now index.now (lent bindings.now count))) result nodes.new }
+    requires { ScopeStands book.now.bytes book.now.index (lent bindings.now count) }
+    ensures { Seeks place nodes.old pen (lookup name (scope_of book.now.bytes book.now.index (lent bindings.now count))) result nodes.new }
 {
     let mut at = count;
     while 0 < at {
         at -= 1;
         let pattern = bindings[at];
-        match get_flat(book, index, pattern, name, nodes, place, pen) {
+        match get_flat(book, pattern, name, nodes, place, pen) {
             Near::Drawn(found) => {
                 return Sought::Drawn(reach(nodes, place, found, count - 1 - at, at));
             }
             Near::Nested => {
                 let from = at + 1;
-                return get_far(book, index, bindings, count, from, name, nodes, place, pen);
+                return get_far(book, bindings, count, from, name, nodes, place, pen);
             }
             Near::Missing => {}
         }
@@ -125,23 +123,15 @@ fn get_near(
 }
 
 // Searches one binding, if its pattern is flat.
-fn get_flat(
-    book: &[u8],
-    index: &[u16],
-    pattern: u16,
-    name: u16,
-    nodes: &mut [u8],
-    place: u16,
-    pen: Pen,
-) -> Near
-    requires { Binds book.now index.now pattern }
-    ensures { Nears place nodes.old pen (find name (bound book.now index.now pattern)) result nodes.new }
+fn get_flat(book: &Book, pattern: u16, name: u16, nodes: &mut [u8], place: u16, pen: Pen) -> Near
+    requires { Binds book.now.bytes book.now.index pattern }
+    ensures { Nears place nodes.old pen (find name (bound book.now.bytes book.now.index pattern)) result nodes.new }
 {
     if pattern == IGNORED {
         return Near::Missing;
     }
-    if mark_at(book, index, pattern) == FN {
-        match get_param(book, index, pattern, name, nodes, place, pen) {
+    if book.mark_at(pattern) == FN {
+        match get_param(book, pattern, name, nodes, place, pen) {
             Sought::Drawn(found) => {
                 return Near::Drawn(found);
             }
@@ -150,13 +140,12 @@ fn get_flat(
             }
         }
     }
-    get_shallow(book, index, pattern, name, nodes, place, pen)
+    get_shallow(book, pattern, name, nodes, place, pen)
 }
 
 // Searches the first `from` bindings, the others having been searched in vain, with a row of what was sought in vain.
 fn get_far(
-    book: &[u8],
-    index: &[u16],
+    book: &Book,
     bindings: &[u16],
     count: usize,
     from: usize,
@@ -165,14 +154,13 @@ fn get_far(
     place: u16,
     pen: Pen,
 ) -> Sought
-    requires scope_stands { ScopeStands book.now index.now (lent bindings.now count) }
+    requires scope_stands { ScopeStands book.now.bytes book.now.index (lent bindings.now count) }
     requires from_in_range { from ≤ count }
-    ensures { Seeks place nodes.old pen (lookup_below book.now index.now bindings.now count from name) result nodes.new }
+    ensures { Seeks place nodes.old pen (lookup_below book.now.bytes book.now.index bindings.now count from name) result nodes.new }
 {
     let mut missing = [0u8; 4096];
     get_newest(
         book,
-        index,
         bindings,
         count,
         from,
@@ -186,8 +174,7 @@ fn get_far(
 
 // The same, the newest of them first. One row of what was sought in vain serves them all, since they may share their parts.
 fn get_newest(
-    book: &[u8],
-    index: &[u16],
+    book: &Book,
     bindings: &[u16],
     count: usize,
     from: usize,
@@ -197,16 +184,16 @@ fn get_newest(
     place: u16,
     pen: Pen,
 ) -> Sought
-    requires scope_stands { ScopeStands book.now index.now (lent bindings.now count) }
+    requires scope_stands { ScopeStands book.now.bytes book.now.index (lent bindings.now count) }
     requires from_in_range { from ≤ count }
-    requires memo { Memo book.now index.now name missing.old }
-    ensures { Searches book.now index.now name (lookup_below book.now index.now bindings.now count from name) place nodes.old pen result nodes.new missing.new }
+    requires memo { Memo book.now.bytes book.now.index name missing.old }
+    ensures { Searches book.now.bytes book.now.index name (lookup_below book.now.bytes book.now.index bindings.now count from name) place nodes.old pen result nodes.new missing.new }
 {
     let mut at = from;
     while 0 < at {
         at -= 1;
         let pattern = bindings[at];
-        match get_bound(book, index, pattern, name, missing, nodes, place, pen) {
+        match get_bound(book, pattern, name, missing, nodes, place, pen) {
             Sought::Drawn(inner) => {
                 return Sought::Drawn(reach(nodes, place, inner, count - 1 - at, at));
             }
@@ -218,8 +205,7 @@ fn get_newest(
 
 // Searches one binding.
 fn get_bound(
-    book: &[u8],
-    index: &[u16],
+    book: &Book,
     pattern: u16,
     name: u16,
     missing: &mut [u8],
@@ -227,17 +213,17 @@ fn get_bound(
     place: u16,
     pen: Pen,
 ) -> Sought
-    requires binds { Binds book.now index.now pattern }
-    requires memo { Memo book.now index.now name missing.old }
-    ensures { Searches book.now index.now name (find name (bound book.now index.now pattern)) place nodes.old pen result nodes.new missing.new }
+    requires binds { Binds book.now.bytes book.now.index pattern }
+    requires memo { Memo book.now.bytes book.now.index name missing.old }
+    ensures { Searches book.now.bytes book.now.index name (find name (bound book.now.bytes book.now.index pattern)) place nodes.old pen result nodes.new missing.new }
 {
     if pattern == IGNORED {
         return Sought::Missing;
     }
-    if mark_at(book, index, pattern) == FN {
-        return get_param(book, index, pattern, name, nodes, place, pen);
+    if book.mark_at(pattern) == FN {
+        return get_param(book, pattern, name, nodes, place, pen);
     }
-    get_from(book, index, pattern, name, missing, nodes, place, pen)
+    get_from(book, pattern, name, missing, nodes, place, pen)
 }
 
 // The steps to a binding around what was found in it, where so many bindings are newer and so many older.

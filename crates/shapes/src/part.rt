@@ -11,53 +11,53 @@ ghost use Rattle.shapes.specs.Views.{NONE, Gives, sort_of, is_sort, side_is, Lis
 
 use array::split;
 use book::format::{TP, TS, TU};
-use book::record::{field_at, mark_at};
+use book::record::Book;
 
 // No type: the number of no record.
 pub const NONE: u16 = 65535;
 
 // The declared type of an expression.
-pub fn type_of(book: &[u8], index: &[u16], e: u16) -> u16
-    requires { Stands book.now index.now e EXPRESSION }
-    ensures { (Stands book.now index.now result TYPE) × (type_of book.now index.now result ≡ type_is (expr_of book.now index.now e)) }
+pub fn type_of(book: &Book, e: u16) -> u16
+    requires { Stands book.now.bytes book.now.index e EXPRESSION }
+    ensures { (Stands book.now.bytes book.now.index result TYPE) × (type_of book.now.bytes book.now.index result ≡ type_is (expr_of book.now.bytes book.now.index e)) }
 {
-    field_at(book, index, e, 0)
+    book.field_at(e, 0)
 }
 
 // A side of a sum (m is its mark) or of a product: its left for 0, its right for 1.
-pub fn side(book: &[u8], index: &[u16], m: u8, t: u16, k: usize) -> u16
-    requires stands { Stands book.now index.now t TYPE }
+pub fn side(book: &Book, m: u8, t: u16, k: usize) -> u16
+    requires stands { Stands book.now.bytes book.now.index t TYPE }
     requires sort { T (is_sort m) }
     requires k_in_range { k < 2 }
-    ensures { Gives book.now index.now (side_is m k (type_of book.now index.now t)) result }
+    ensures { Gives book.now.bytes book.now.index (side_is m k (type_of book.now.bytes book.now.index t)) result }
 {
-    if mark_at(book, index, t) != m {
+    if book.mark_at(t) != m {
         return NONE;
     }
-    field_at(book, index, t, k)
+    book.field_at(t, k)
 }
 
 // Place k of n in a balanced tree of sums or of products.
-pub fn place(book: &[u8], index: &[u16], m: u8, t: u16, n: u32, k: u32) -> u16
-    requires stands { Stands book.now index.now t TYPE }
+pub fn place(book: &Book, m: u8, t: u16, n: u32, k: u32) -> u16
+    requires stands { Stands book.now.bytes book.now.index t TYPE }
     requires sort { T (is_sort m) }
     requires k_in_range { k < n }
     requires n_in_range { n ≤ 256 }
-    ensures { Gives book.now index.now (place_of (sort_of m) n k (type_of book.now index.now t)) result }
+    ensures { Gives book.now.bytes book.now.index (place_of (sort_of m) n k (type_of book.now.bytes book.now.index t)) result }
 {
     let mut at = t;
     let mut count = n;
     let mut left = k;
     while 1 < count {
-        if mark_at(book, index, at) != m {
+        if book.mark_at(at) != m {
             return NONE;
         }
         let half = split(count);
         if left < half {
-            at = field_at(book, index, at, 0);
+            at = book.field_at(at, 0);
             count = half;
         } else {
-            at = field_at(book, index, at, 1);
+            at = book.field_at(at, 1);
             count -= half;
             left -= half;
         }
@@ -66,41 +66,41 @@ pub fn place(book: &[u8], index: &[u16], m: u8, t: u16, n: u32, k: u32) -> u16
 }
 
 // Whether a type is unit.
-pub fn is_unit(book: &[u8], index: &[u16], t: u16) -> bool
-    requires { Stands book.now index.now t TYPE }
-    ensures { result ≡ same (type_of book.now index.now t) one }
+pub fn is_unit(book: &Book, t: u16) -> bool
+    requires { Stands book.now.bytes book.now.index t TYPE }
+    ensures { result ≡ same (type_of book.now.bytes book.now.index t) one }
 {
-    mark_at(book, index, t) == TU
+    book.mark_at(t) == TU
 }
 
 // Whether a type is a bit.
-pub fn is_bit(book: &[u8], index: &[u16], t: u16) -> bool
-    requires { Stands book.now index.now t TYPE }
-    ensures { result ≡ same (type_of book.now index.now t) two }
+pub fn is_bit(book: &Book, t: u16) -> bool
+    requires { Stands book.now.bytes book.now.index t TYPE }
+    ensures { result ≡ same (type_of book.now.bytes book.now.index t) two }
 {
-    if mark_at(book, index, t) != TS {
+    if book.mark_at(t) != TS {
         return false;
     }
-    if !is_unit(book, index, field_at(book, index, t, 0)) {
+    if !is_unit(book, book.field_at(t, 0)) {
         return false;
     }
-    is_unit(book, index, field_at(book, index, t, 1))
+    is_unit(book, book.field_at(t, 1))
 }
 
 // What a type is n of, in balanced pairs: n is a power of two, so both halves of each pair are one type.
-pub fn halved(book: &[u8], index: &[u16], t: u16, n: u32) -> u16
-    requires stands { Stands book.now index.now t TYPE }
+pub fn halved(book: &Book, t: u16, n: u32) -> u16
+    requires stands { Stands book.now.bytes book.now.index t TYPE }
     requires among { T (among powers n) }
-    ensures { Gives book.now index.now (halved_of (top_of n) (type_of book.now index.now t)) result }
+    ensures { Gives book.now.bytes book.now.index (halved_of (top_of n) (type_of book.now.bytes book.now.index t)) result }
 {
     let mut at = t;
     let mut count = n;
     while 1 < count {
-        if mark_at(book, index, at) != TP {
+        if book.mark_at(at) != TP {
             return NONE;
         }
-        let part = field_at(book, index, at, 0);
-        if field_at(book, index, at, 1) != part {
+        let part = book.field_at(at, 0);
+        if book.field_at(at, 1) != part {
             return NONE;
         }
         at = part;
@@ -110,29 +110,29 @@ pub fn halved(book: &[u8], index: &[u16], t: u16, n: u32) -> u16
 }
 
 // Whether a type is a word of so many bits, a power of two.
-pub fn is_word(book: &[u8], index: &[u16], t: u16, bits: u32) -> bool
-    requires stands { Stands book.now index.now t TYPE }
+pub fn is_word(book: &Book, t: u16, bits: u32) -> bool
+    requires stands { Stands book.now.bytes book.now.index t TYPE }
     requires among { T (among powers bits) }
-    ensures { result ≡ same (type_of book.now index.now t) (word_type bits) }
+    ensures { result ≡ same (type_of book.now.bytes book.now.index t) (word_type bits) }
 {
-    let bit = halved(book, index, t, bits);
+    let bit = halved(book, t, bits);
     if bit == NONE {
         return false;
     }
-    is_bit(book, index, bit)
+    is_bit(book, bit)
 }
 
 // Whether a type is n of a type, in a row.
-pub fn is_array(book: &[u8], index: &[u16], t: u16, n: u32, element: u16) -> bool
-    requires stands { Stands book.now index.now t TYPE }
-    requires stands_element { Stands book.now index.now element TYPE }
+pub fn is_array(book: &Book, t: u16, n: u32, element: u16) -> bool
+    requires stands { Stands book.now.bytes book.now.index t TYPE }
+    requires stands_element { Stands book.now.bytes book.now.index element TYPE }
     requires n_in_range { 1 ≤ n }
     requires n_in_range_too { n ≤ 256 }
-    ensures { result ≡ same (type_of book.now index.now t) (array_type (type_of book.now index.now element) n) }
+    ensures { result ≡ same (type_of book.now.bytes book.now.index t) (array_type (type_of book.now.bytes book.now.index element) n) }
 {
     let mut k: u32 = 0;
     while k < n {
-        if place(book, index, TP, t, n, k) != element {
+        if place(book, TP, t, n, k) != element {
             return false;
         }
         k += 1;
@@ -141,70 +141,70 @@ pub fn is_array(book: &[u8], index: &[u16], t: u16, n: u32, element: u16) -> boo
 }
 
 // Whether a type is a list's block: unit, or n of a type, a power of two.
-pub fn is_block(book: &[u8], index: &[u16], t: u16, n: u32, element: u16) -> bool
-    requires stands { Stands book.now index.now t TYPE }
-    requires stands_element { Stands book.now index.now element TYPE }
+pub fn is_block(book: &Book, t: u16, n: u32, element: u16) -> bool
+    requires stands { Stands book.now.bytes book.now.index t TYPE }
+    requires stands_element { Stands book.now.bytes book.now.index element TYPE }
     requires among { T (among powers n) }
-    ensures { result ≡ same (type_of book.now index.now t) (block_type (type_of book.now index.now element) (top_of n)) }
+    ensures { result ≡ same (type_of book.now.bytes book.now.index t) (block_type (type_of book.now.bytes book.now.index element) (top_of n)) }
 {
-    if mark_at(book, index, t) != TS {
+    if book.mark_at(t) != TS {
         return false;
     }
-    if !is_unit(book, index, field_at(book, index, t, 0)) {
+    if !is_unit(book, book.field_at(t, 0)) {
         return false;
     }
-    halved(book, index, field_at(book, index, t, 1), n) == element
+    halved(book, book.field_at(t, 1), n) == element
 }
 
 // Whether a type is the lists of a bound, of a type.
-pub fn is_list(book: &[u8], index: &[u16], t: u16, bound: u32, element: u16) -> bool
-    requires stands { Stands book.now index.now t TYPE }
-    requires stands_element { Stands book.now index.now element TYPE }
+pub fn is_list(book: &Book, t: u16, bound: u32, element: u16) -> bool
+    requires stands { Stands book.now.bytes book.now.index t TYPE }
+    requires stands_element { Stands book.now.bytes book.now.index element TYPE }
     requires list_bound { ListBound bound }
-    ensures { result ≡ same (type_of book.now index.now t) (list_type (type_of book.now index.now element) bound) }
+    ensures { result ≡ same (type_of book.now.bytes book.now.index t) (list_type (type_of book.now.bytes book.now.index element) bound) }
 {
     let mut at = t;
     let mut half = bound / 2;
     while 1 < half {
-        if mark_at(book, index, at) != TP {
+        if book.mark_at(at) != TP {
             return false;
         }
-        if !is_block(book, index, field_at(book, index, at, 0), half, element) {
+        if !is_block(book, book.field_at(at, 0), half, element) {
             return false;
         }
-        at = field_at(book, index, at, 1);
+        at = book.field_at(at, 1);
         half /= 2;
     }
-    is_block(book, index, at, 1, element)
+    is_block(book, at, 1, element)
 }
 
 // What a type is the lists of a bound of, if it is that at all: its last block has one element.
-pub fn element_of(book: &[u8], index: &[u16], t: u16, bound: u32) -> u16
-    requires stands { Stands book.now index.now t TYPE }
+pub fn element_of(book: &Book, t: u16, bound: u32) -> u16
+    requires stands { Stands book.now.bytes book.now.index t TYPE }
     requires list_bound { ListBound bound }
-    ensures { Gives book.now index.now (element_of (top_of bound) (type_of book.now index.now t)) result }
+    ensures { Gives book.now.bytes book.now.index (element_of (top_of bound) (type_of book.now.bytes book.now.index t)) result }
 {
     let mut at = t;
     let mut half = bound / 2;
     while 1 < half {
-        if mark_at(book, index, at) != TP {
+        if book.mark_at(at) != TP {
             return NONE;
         }
-        at = field_at(book, index, at, 1);
+        at = book.field_at(at, 1);
         half /= 2;
     }
-    side(book, index, TS, at, 1)
+    side(book, TS, at, 1)
 }
 
 // Whether a type has a place for each of n variants.
-pub fn has_places(book: &[u8], index: &[u16], t: u16, n: u32) -> bool
-    requires stands { Stands book.now index.now t TYPE }
+pub fn has_places(book: &Book, t: u16, n: u32) -> bool
+    requires stands { Stands book.now.bytes book.now.index t TYPE }
     requires n_in_range { n ≤ 256 }
-    ensures { result ≡ has_places n (type_of book.now index.now t) }
+    ensures { result ≡ has_places n (type_of book.now.bytes book.now.index t) }
 {
     let mut k: u32 = 0;
     while k < n {
-        if place(book, index, TS, t, n, k) == NONE {
+        if place(book, TS, t, n, k) == NONE {
             return false;
         }
         k += 1;

@@ -17,34 +17,34 @@ use book::format::{
     CA, CD, CF, CH, CJ, CK, CL, CN, CQ, CR, CW, CY, E0, E1, EB, EC, EH, EL, EM, EN, ET, TP, TS, VL,
     VP, VR, VU,
 };
-use book::record::{field_at, mark_at};
+use book::record::Book;
 use jet::jet_at;
 use parts::view::{Span, span_of};
 
 // The declared type of the expression that field j of a record names.
-fn part_type(book: &[u8], index: &[u16], r: u16, j: usize) -> u16
-    requires lies { Lies book.now index.now r j }
-    requires stands { Stands book.now index.now (field book.now index.now r j) EXPRESSION }
-    ensures { (Stands book.now index.now result TYPE) × (type_of book.now index.now result ≡ type_is (expr_of book.now index.now (field book.now index.now r j))) }
+fn part_type(book: &Book, r: u16, j: usize) -> u16
+    requires lies { Lies book.now.bytes book.now.index r j }
+    requires stands { Stands book.now.bytes book.now.index (field book.now.bytes book.now.index r j) EXPRESSION }
+    ensures { (Stands book.now.bytes book.now.index result TYPE) × (type_of book.now.bytes book.now.index result ≡ type_is (expr_of book.now.bytes book.now.index (field book.now.bytes book.now.index r j))) }
 {
-    let e = field_at(book, index, r, j);
-    type_of(book, index, e)
+    let e = book.field_at(r, j);
+    type_of(book, e)
 }
 
 // Whether a type is the row of the parts' types.
-pub fn is_row(book: &[u8], index: &[u16], t: u16, r: u16, span: Span) -> bool
-    requires stands { Stands book.now index.now t TYPE }
-    requires elements { Elements book.now index.now r span.stride span.from span.count }
-    ensures { result ≡ same (type_of book.now index.now t) (row_type (types_at book.now index.now r span.stride span.from span.count)) }
+pub fn is_row(book: &Book, t: u16, r: u16, span: Span) -> bool
+    requires stands { Stands book.now.bytes book.now.index t TYPE }
+    requires elements { Elements book.now.bytes book.now.index r span.stride span.from span.count }
+    ensures { result ≡ same (type_of book.now.bytes book.now.index t) (row_type (types_at book.now.bytes book.now.index r span.stride span.from span.count)) }
 {
     let n = span.count;
     if n == 0 {
-        return is_unit(book, index, t);
+        return is_unit(book, t);
     }
     let mut k: usize = 0;
     while k < n {
-        let part = part_type(book, index, r, span.from + span.stride * k);
-        if place(book, index, TP, t, n as u32, k as u32) != part {
+        let part = part_type(book, r, span.from + span.stride * k);
+        if place(book, TP, t, n as u32, k as u32) != part {
             return false;
         }
         k += 1;
@@ -53,15 +53,15 @@ pub fn is_row(book: &[u8], index: &[u16], t: u16, r: u16, span: Span) -> bool
 }
 
 // Whether the parts all have a type.
-fn are_all(book: &[u8], index: &[u16], t: u16, r: u16, span: Span) -> bool
-    requires stands { Stands book.now index.now t TYPE }
-    requires elements { Elements book.now index.now r span.stride span.from span.count }
-    ensures { result ≡ all_are (type_of book.now index.now t) (types_at book.now index.now r span.stride span.from span.count) }
+fn are_all(book: &Book, t: u16, r: u16, span: Span) -> bool
+    requires stands { Stands book.now.bytes book.now.index t TYPE }
+    requires elements { Elements book.now.bytes book.now.index r span.stride span.from span.count }
+    ensures { result ≡ all_are (type_of book.now.bytes book.now.index t) (types_at book.now.bytes book.now.index r span.stride span.from span.count) }
 {
     let n = span.count;
     let mut k: usize = 0;
     while k < n {
-        if part_type(book, index, r, span.from + span.stride * k) != t {
+        if part_type(book, r, span.from + span.stride * k) != t {
             return false;
         }
         k += 1;
@@ -70,130 +70,130 @@ fn are_all(book: &[u8], index: &[u16], t: u16, r: u16, span: Span) -> bool
 }
 
 // A constant: its value's declared type.
-fn constant(book: &[u8], index: &[u16], r: u16, t: u16) -> bool
-    requires { Declares book.now index.now r EC t }
-    ensures { result ≡ whole (expr_of book.now index.now r) }
+fn constant(book: &Book, r: u16, t: u16) -> bool
+    requires { Declares book.now.bytes book.now.index r EC t }
+    ensures { result ≡ whole (expr_of book.now.bytes book.now.index r) }
 {
-    value_type(book, index, r, 1) == t
+    value_type(book, r, 1) == t
 }
 
 // A tuple: the row of its parts.
-fn tuple(book: &[u8], index: &[u16], r: u16, t: u16) -> bool
-    requires { Declares book.now index.now r ET t }
-    ensures { result ≡ whole (expr_of book.now index.now r) }
+fn tuple(book: &Book, r: u16, t: u16) -> bool
+    requires { Declares book.now.bytes book.now.index r ET t }
+    ensures { result ≡ whole (expr_of book.now.bytes book.now.index r) }
 {
-    is_row(book, index, t, r, span_of(book, index, r, ET))
+    is_row(book, t, r, span_of(book, r, ET))
 }
 
 // A list: of what its last block says, which its elements all are.
-fn list(book: &[u8], index: &[u16], r: u16, t: u16) -> bool
-    requires { Declares book.now index.now r EL t }
-    ensures { result ≡ whole (expr_of book.now index.now r) }
+fn list(book: &Book, r: u16, t: u16) -> bool
+    requires { Declares book.now.bytes book.now.index r EL t }
+    ensures { result ≡ whole (expr_of book.now.bytes book.now.index r) }
 {
-    let span = span_of(book, index, r, EL);
-    let bound = field_at(book, index, r, 1) as u32;
-    let element = element_of(book, index, t, bound);
+    let span = span_of(book, r, EL);
+    let bound = book.field_at(r, 1) as u32;
+    let element = element_of(book, t, bound);
     if element == NONE {
         return false;
     }
-    if !is_list(book, index, t, bound, element) {
+    if !is_list(book, t, bound, element) {
         return false;
     }
-    are_all(book, index, element, r, span)
+    are_all(book, element, r, span)
 }
 
 // Left or right of a part: the side k of the declared type is the part's.
-fn injection(book: &[u8], index: &[u16], r: u16, t: u16, k: usize) -> bool
-    requires declares { Declares book.now index.now r (E0 + k) t }
+fn injection(book: &Book, r: u16, t: u16, k: usize) -> bool
+    requires declares { Declares book.now.bytes book.now.index r (E0 + k) t }
     requires k_in_range { k < 2 }
-    ensures { result ≡ whole (expr_of book.now index.now r) }
+    ensures { result ≡ whole (expr_of book.now.bytes book.now.index r) }
 {
-    side(book, index, TS, t, k) == part_type(book, index, r, 1)
+    side(book, TS, t, k) == part_type(book, r, 1)
 }
 
 // A variant: the declared type has all the places, and that of the index is the payload's row.
-fn variant(book: &[u8], index: &[u16], r: u16, t: u16) -> bool
-    requires { Declares book.now index.now r EN t }
-    ensures { result ≡ whole (expr_of book.now index.now r) }
+fn variant(book: &Book, r: u16, t: u16) -> bool
+    requires { Declares book.now.bytes book.now.index r EN t }
+    ensures { result ≡ whole (expr_of book.now.bytes book.now.index r) }
 {
-    let span = span_of(book, index, r, EN);
-    let n = field_at(book, index, r, 2) as u32;
-    if !has_places(book, index, t, n) {
+    let span = span_of(book, r, EN);
+    let n = book.field_at(r, 2) as u32;
+    if !has_places(book, t, n) {
         return false;
     }
-    let payload = place(book, index, TS, t, n, field_at(book, index, r, 1) as u32);
+    let payload = place(book, TS, t, n, book.field_at(r, 1) as u32);
     if payload == NONE {
         return false;
     }
-    is_row(book, index, payload, r, span)
+    is_row(book, payload, r, span)
 }
 
 // A block: its end's type, or unit where there is none.
-fn block(book: &[u8], index: &[u16], r: u16, t: u16) -> bool
-    requires { Declares book.now index.now r EB t }
-    ensures { result ≡ whole (expr_of book.now index.now r) }
+fn block(book: &Book, r: u16, t: u16) -> bool
+    requires { Declares book.now.bytes book.now.index r EB t }
+    ensures { result ≡ whole (expr_of book.now.bytes book.now.index r) }
 {
-    let n = field_at(book, index, r, 1) as usize;
-    let end = field_at(book, index, r, 2 + n);
+    let n = book.field_at(r, 1) as usize;
+    let end = book.field_at(r, 2 + n);
     if end == 65535 {
-        return is_unit(book, index, t);
+        return is_unit(book, t);
     }
-    type_of(book, index, end) == t
+    type_of(book, end) == t
 }
 
 // A match of two arms: both are of its type.
-fn two_arms(book: &[u8], index: &[u16], r: u16, t: u16) -> bool
-    requires { Declares book.now index.now r EM t }
-    ensures { result ≡ whole (expr_of book.now index.now r) }
+fn two_arms(book: &Book, r: u16, t: u16) -> bool
+    requires { Declares book.now.bytes book.now.index r EM t }
+    ensures { result ≡ whole (expr_of book.now.bytes book.now.index r) }
 {
     let span = Span {
         from: 3,
         stride: 2,
         count: 2,
     };
-    are_all(book, index, t, r, span)
+    are_all(book, t, r, span)
 }
 
 // An enum's match: all arms are of its type.
-fn arms(book: &[u8], index: &[u16], r: u16, t: u16) -> bool
-    requires { Declares book.now index.now r EH t }
-    ensures { result ≡ whole (expr_of book.now index.now r) }
+fn arms(book: &Book, r: u16, t: u16) -> bool
+    requires { Declares book.now.bytes book.now.index r EH t }
+    ensures { result ≡ whole (expr_of book.now.bytes book.now.index r) }
 {
-    are_all(book, index, t, r, span_of(book, index, r, EH))
+    are_all(book, t, r, span_of(book, r, EH))
 }
 
 // Whether a type is what a jet gives, by its width: unit, a bit, or a carry beside a word.
-fn is_result(book: &[u8], index: &[u16], t: u16, bits: u32) -> bool
-    requires stands { Stands book.now index.now t TYPE }
+fn is_result(book: &Book, t: u16, bits: u32) -> bool
+    requires stands { Stands book.now.bytes book.now.index t TYPE }
     requires among { T (among (0 ∷ 1 ∷ 9 ∷ []) bits) }
-    ensures { result ≡ same (type_of book.now index.now t) (result_type bits) }
+    ensures { result ≡ same (type_of book.now.bytes book.now.index t) (result_type bits) }
 {
     if bits == 0 {
-        return is_unit(book, index, t);
+        return is_unit(book, t);
     }
     if bits == 1 {
-        return is_bit(book, index, t);
+        return is_bit(book, t);
     }
-    if mark_at(book, index, t) != TP {
+    if book.mark_at(t) != TP {
         return false;
     }
-    if !is_bit(book, index, field_at(book, index, t, 0)) {
+    if !is_bit(book, book.field_at(t, 0)) {
         return false;
     }
-    is_word(book, index, field_at(book, index, t, 1), bits - 1)
+    is_word(book, book.field_at(t, 1), bits - 1)
 }
 
 // Whether the parts are all words of so many bits.
-fn are_words(book: &[u8], index: &[u16], r: u16, span: Span, bits: u32) -> bool
-    requires elements { Elements book.now index.now r span.stride span.from span.count }
+fn are_words(book: &Book, r: u16, span: Span, bits: u32) -> bool
+    requires elements { Elements book.now.bytes book.now.index r span.stride span.from span.count }
     requires among { T (among powers bits) }
-    ensures { result ≡ all_are (word_type bits) (types_at book.now index.now r span.stride span.from span.count) }
+    ensures { result ≡ all_are (word_type bits) (types_at book.now.bytes book.now.index r span.stride span.from span.count) }
 {
     let n = span.count;
     let mut k: usize = 0;
     while k < n {
-        let part = part_type(book, index, r, span.from + span.stride * k);
-        if !is_word(book, index, part, bits) {
+        let part = part_type(book, r, span.from + span.stride * k);
+        if !is_word(book, part, bits) {
             return false;
         }
         k += 1;
@@ -202,82 +202,82 @@ fn are_words(book: &[u8], index: &[u16], r: u16, span: Span, bits: u32) -> bool
 }
 
 // A jet: as many arguments as it takes, which share its input's bits, and its output.
-fn jet(book: &[u8], index: &[u16], r: u16, t: u16) -> bool
-    requires { Declares book.now index.now r CJ t }
-    ensures { result ≡ whole (expr_of book.now index.now r) }
+fn jet(book: &Book, r: u16, t: u16) -> bool
+    requires { Declares book.now.bytes book.now.index r CJ t }
+    ensures { result ≡ whole (expr_of book.now.bytes book.now.index r) }
 {
-    let span = span_of(book, index, r, CJ);
-    let jet = jet_at(field_at(book, index, r, 2) as usize);
-    if field_at(book, index, r, 3) != jet.arguments {
+    let span = span_of(book, r, CJ);
+    let jet = jet_at(book.field_at(r, 2) as usize);
+    if book.field_at(r, 3) != jet.arguments {
         return false;
     }
     let bits = (jet.input / jet.arguments) as u32;
-    if !are_words(book, index, r, span, bits) {
+    if !are_words(book, r, span, bits) {
         return false;
     }
-    is_result(book, index, t, jet.output as u32)
+    is_result(book, t, jet.output as u32)
 }
 
 // An unwrapped part: the side k of its type is the declared one.
-fn unwrap(book: &[u8], index: &[u16], r: u16, t: u16, k: usize) -> bool
-    requires declares { Declares book.now index.now r (CL + k) t }
+fn unwrap(book: &Book, r: u16, t: u16, k: usize) -> bool
+    requires declares { Declares book.now.bytes book.now.index r (CL + k) t }
     requires k_in_range { k < 2 }
-    ensures { result ≡ whole (expr_of book.now index.now r) }
+    ensures { result ≡ whole (expr_of book.now.bytes book.now.index r) }
 {
-    let part = part_type(book, index, r, 2);
-    side(book, index, TS, part, k) == t
+    let part = part_type(book, r, 2);
+    side(book, TS, part, k) == t
 }
 
 // Debug: its part's type.
-fn debug(book: &[u8], index: &[u16], r: u16, t: u16) -> bool
-    requires { Declares book.now index.now r CD t }
-    ensures { result ≡ whole (expr_of book.now index.now r) }
+fn debug(book: &Book, r: u16, t: u16) -> bool
+    requires { Declares book.now.bytes book.now.index r CD t }
+    ensures { result ≡ whole (expr_of book.now.bytes book.now.index r) }
 {
-    part_type(book, index, r, 2) == t
+    part_type(book, r, 2) == t
 }
 
 // Assert: from a bit to unit.
-fn assert(book: &[u8], index: &[u16], r: u16, t: u16) -> bool
-    requires { Declares book.now index.now r CA t }
-    ensures { result ≡ whole (expr_of book.now index.now r) }
+fn assert(book: &Book, r: u16, t: u16) -> bool
+    requires { Declares book.now.bytes book.now.index r CA t }
+    ensures { result ≡ whole (expr_of book.now.bytes book.now.index r) }
 {
-    let part = part_type(book, index, r, 2);
-    if !is_bit(book, index, part) {
+    let part = part_type(book, r, 2);
+    if !is_bit(book, part) {
         return false;
     }
-    is_unit(book, index, t)
+    is_unit(book, t)
 }
 
 // IsNone: from a sum to a bit.
-fn is_none(book: &[u8], index: &[u16], r: u16, t: u16) -> bool
-    requires { Declares book.now index.now r CN t }
-    ensures { result ≡ whole (expr_of book.now index.now r) }
+fn is_none(book: &Book, r: u16, t: u16) -> bool
+    requires { Declares book.now.bytes book.now.index r CN t }
+    ensures { result ≡ whole (expr_of book.now.bytes book.now.index r) }
 {
-    let part = part_type(book, index, r, 1);
-    if side(book, index, TS, part, 0) == NONE {
+    let part = part_type(book, r, 1);
+    if side(book, TS, part, 0) == NONE {
         return false;
     }
-    is_bit(book, index, t)
+    is_bit(book, t)
 }
 
 // A cast: its part's type.
-fn cast(book: &[u8], index: &[u16], r: u16, t: u16) -> bool
-    requires { Declares book.now index.now r CK t }
-    ensures { result ≡ whole (expr_of book.now index.now r) }
+fn cast(book: &Book, r: u16, t: u16) -> bool
+    requires { Declares book.now.bytes book.now.index r CK t }
+    ensures { result ≡ whole (expr_of book.now.bytes book.now.index r) }
 {
-    part_type(book, index, r, 1) == t
+    part_type(book, r, 1) == t
 }
 
 // Whether the arguments of a call are what its function takes, of as many parameters.
-fn are_taken(book: &[u8], index: &[u16], r: u16, f: u16, n: usize) -> bool
-    requires elements { Elements book.now index.now r 1 3 n }
-    requires stands { Stands book.now index.now f FUNCTION }
-    requires n_is { n ≡ field book.now index.now f 1 }
-    ensures { result ≡ same_all (types_at book.now index.now r 1 3 n) (takes_at book.now index.now f 2 n) }
+fn are_taken(book: &Book, r: u16, f: u16, n: usize) -> bool
+    requires elements { Elements book.now.bytes book.now.index r 1 3 n }
+    requires stands { Stands book.now.bytes book.now.index f FUNCTION }
+    requires n_is { n ≡ field book.now.bytes book.now.index f 1 }
+    ensures { result ≡ same_all (types_at book.now.bytes book.now.index r 1 3 n) (takes_at book.now.bytes book.now.index f 2 n) }
 {
     let mut k: usize = 0;
     while k < n {
-        if part_type(book, index, r, 3 + k) != field_at(book, index, f, 3 + 2 * k) {
+        if part_type(book, r, 3 + k) != book.field_at(f, 3 + 2 * k) {
             return false;
         }
         k += 1;
@@ -286,109 +286,109 @@ fn are_taken(book: &[u8], index: &[u16], r: u16, f: u16, n: usize) -> bool
 }
 
 // A call: as many arguments as parameters, of their types, and what the function gives.
-fn call(book: &[u8], index: &[u16], r: u16, t: u16) -> bool
-    requires { Declares book.now index.now r CF t }
-    ensures { result ≡ whole (expr_of book.now index.now r) }
+fn call(book: &Book, r: u16, t: u16) -> bool
+    requires { Declares book.now.bytes book.now.index r CF t }
+    ensures { result ≡ whole (expr_of book.now.bytes book.now.index r) }
 {
-    let f = field_at(book, index, r, 1);
-    let n = field_at(book, index, r, 2);
-    if field_at(book, index, f, 1) != n {
+    let f = book.field_at(r, 1);
+    let n = book.field_at(r, 2);
+    if book.field_at(f, 1) != n {
         return false;
     }
-    if !are_taken(book, index, r, f, n as usize) {
+    if !are_taken(book, r, f, n as usize) {
         return false;
     }
-    t == field_at(book, index, f, 0)
+    t == book.field_at(f, 0)
 }
 
 // Whether a fold over e from a is of type t: its function takes an element and the accumulator and gives the accumulator.
-fn is_accumulator(book: &[u8], index: &[u16], r: u16, f: u16, t: u16) -> bool
-    requires { Folding book.now index.now r f t }
-    ensures { result ≡ accumulates book.now index.now r f t }
+fn is_accumulator(book: &Book, r: u16, f: u16, t: u16) -> bool
+    requires { Folding book.now.bytes book.now.index r f t }
+    ensures { result ≡ accumulates book.now.bytes book.now.index r f t }
 {
-    let accumulator = field_at(book, index, f, 5);
-    if part_type(book, index, r, 4) != accumulator {
+    let accumulator = book.field_at(f, 5);
+    if part_type(book, r, 4) != accumulator {
         return false;
     }
     if t != accumulator {
         return false;
     }
-    field_at(book, index, f, 0) == accumulator
+    book.field_at(f, 0) == accumulator
 }
 
 // A list fold.
-fn list_fold(book: &[u8], index: &[u16], r: u16, t: u16) -> bool
-    requires { Declares book.now index.now r CQ t }
-    ensures { result ≡ whole (expr_of book.now index.now r) }
+fn list_fold(book: &Book, r: u16, t: u16) -> bool
+    requires { Declares book.now.bytes book.now.index r CQ t }
+    ensures { result ≡ whole (expr_of book.now.bytes book.now.index r) }
 {
-    let f = field_at(book, index, r, 1);
-    if field_at(book, index, f, 1) != 2 {
+    let f = book.field_at(r, 1);
+    if book.field_at(f, 1) != 2 {
         return false;
     }
-    let bound = field_at(book, index, r, 2) as u32;
-    let list = part_type(book, index, r, 3);
-    if !is_list(book, index, list, bound, field_at(book, index, f, 3)) {
+    let bound = book.field_at(r, 2) as u32;
+    let list = part_type(book, r, 3);
+    if !is_list(book, list, bound, book.field_at(f, 3)) {
         return false;
     }
-    is_accumulator(book, index, r, f, t)
+    is_accumulator(book, r, f, t)
 }
 
 // An array fold.
-fn array_fold(book: &[u8], index: &[u16], r: u16, t: u16) -> bool
-    requires { Declares book.now index.now r CY t }
-    ensures { result ≡ whole (expr_of book.now index.now r) }
+fn array_fold(book: &Book, r: u16, t: u16) -> bool
+    requires { Declares book.now.bytes book.now.index r CY t }
+    ensures { result ≡ whole (expr_of book.now.bytes book.now.index r) }
 {
-    let f = field_at(book, index, r, 1);
-    if field_at(book, index, f, 1) != 2 {
+    let f = book.field_at(r, 1);
+    if book.field_at(f, 1) != 2 {
         return false;
     }
-    let size = field_at(book, index, r, 2) as u32;
-    let array = part_type(book, index, r, 3);
-    if !is_array(book, index, array, size, field_at(book, index, f, 3)) {
+    let size = book.field_at(r, 2) as u32;
+    let array = part_type(book, r, 3);
+    if !is_array(book, array, size, book.field_at(f, 3)) {
         return false;
     }
-    is_accumulator(book, index, r, f, t)
+    is_accumulator(book, r, f, t)
 }
 
 // A loop, whose function takes three: the counter, the accumulator and the context, and what it gives.
-fn for_while(book: &[u8], index: &[u16], r: u16, t: u16) -> bool
-    requires { Declares book.now index.now r CW t }
-    ensures { result ≡ whole (expr_of book.now index.now r) }
+fn for_while(book: &Book, r: u16, t: u16) -> bool
+    requires { Declares book.now.bytes book.now.index r CW t }
+    ensures { result ≡ whole (expr_of book.now.bytes book.now.index r) }
 {
-    let f = field_at(book, index, r, 1);
-    if field_at(book, index, f, 1) != 3 {
+    let f = book.field_at(r, 1);
+    if book.field_at(f, 1) != 3 {
         return false;
     }
-    let width = field_at(book, index, r, 2) as u32;
-    let accumulator = field_at(book, index, f, 3);
-    let context = field_at(book, index, f, 5);
-    let counter = field_at(book, index, f, 7);
-    if !is_word(book, index, counter, width) {
+    let width = book.field_at(r, 2) as u32;
+    let accumulator = book.field_at(f, 3);
+    let context = book.field_at(f, 5);
+    let counter = book.field_at(f, 7);
+    if !is_word(book, counter, width) {
         return false;
     }
-    if part_type(book, index, r, 3) != accumulator {
+    if part_type(book, r, 3) != accumulator {
         return false;
     }
-    if part_type(book, index, r, 4) != context {
+    if part_type(book, r, 4) != context {
         return false;
     }
-    if side(book, index, TS, t, 1) != accumulator {
+    if side(book, TS, t, 1) != accumulator {
         return false;
     }
-    field_at(book, index, f, 0) == t
+    book.field_at(f, 0) == t
 }
 
 // Whether a hash's n expressions are words of their widths.
-fn are_hashed(book: &[u8], index: &[u16], r: u16, n: usize) -> bool
-    requires marked { Marked book.now index.now r CH }
-    requires n_is { n ≡ field book.now index.now r 2 }
-    ensures { result ≡ words_at book.now index.now r 3 n }
+fn are_hashed(book: &Book, r: u16, n: usize) -> bool
+    requires marked { Marked book.now.bytes book.now.index r CH }
+    requires n_is { n ≡ field book.now.bytes book.now.index r 2 }
+    ensures { result ≡ words_at book.now.bytes book.now.index r 3 n }
 {
     let mut k: usize = 0;
     while k < n {
-        let bits = field_at(book, index, r, 3 + 2 * k) as u32;
-        let part = part_type(book, index, r, 4 + 2 * k);
-        if !is_word(book, index, part, bits) {
+        let bits = book.field_at(r, 3 + 2 * k) as u32;
+        let part = part_type(book, r, 4 + 2 * k);
+        if !is_word(book, part, bits) {
             return false;
         }
         k += 1;
@@ -397,99 +397,99 @@ fn are_hashed(book: &[u8], index: &[u16], r: u16, n: usize) -> bool
 }
 
 // A hash: words of their widths, to a word of 256 bits.
-fn hash(book: &[u8], index: &[u16], r: u16, t: u16) -> bool
-    requires { Declares book.now index.now r CH t }
-    ensures { result ≡ whole (expr_of book.now index.now r) }
+fn hash(book: &Book, r: u16, t: u16) -> bool
+    requires { Declares book.now.bytes book.now.index r CH t }
+    ensures { result ≡ whole (expr_of book.now.bytes book.now.index r) }
 {
-    let n = field_at(book, index, r, 2) as usize;
-    if !are_hashed(book, index, r, n) {
+    let n = book.field_at(r, 2) as usize;
+    if !are_hashed(book, r, n) {
         return false;
     }
-    is_word(book, index, t, 256)
+    is_word(book, t, 256)
 }
 
 // A call, by its mark.
-fn call_agrees(book: &[u8], index: &[u16], r: u16, m: u8, t: u16) -> bool
-    requires declares { Declares book.now index.now r m t }
+fn call_agrees(book: &Book, r: u16, m: u8, t: u16) -> bool
+    requires declares { Declares book.now.bytes book.now.index r m t }
     requires m_in_range { CJ ≤ m }
-    ensures { result ≡ whole (expr_of book.now index.now r) }
+    ensures { result ≡ whole (expr_of book.now.bytes book.now.index r) }
 {
     match m {
-        CJ => jet(book, index, r, t),
-        CL => unwrap(book, index, r, t, 0),
-        CR => unwrap(book, index, r, t, 1),
-        CD => debug(book, index, r, t),
-        CA => assert(book, index, r, t),
-        CN => is_none(book, index, r, t),
-        CK => cast(book, index, r, t),
-        CF => call(book, index, r, t),
-        CQ => list_fold(book, index, r, t),
-        CY => array_fold(book, index, r, t),
-        CW => for_while(book, index, r, t),
-        CH => hash(book, index, r, t),
+        CJ => jet(book, r, t),
+        CL => unwrap(book, r, t, 0),
+        CR => unwrap(book, r, t, 1),
+        CD => debug(book, r, t),
+        CA => assert(book, r, t),
+        CN => is_none(book, r, t),
+        CK => cast(book, r, t),
+        CF => call(book, r, t),
+        CQ => list_fold(book, r, t),
+        CY => array_fold(book, r, t),
+        CW => for_while(book, r, t),
+        CH => hash(book, r, t),
         _ => true,
     }
 }
 
 // An expression, by its mark. A variable is judged in its scope.
-pub fn agrees(book: &[u8], index: &[u16], r: u16, m: u8) -> bool
-    requires { Marked book.now index.now r m }
-    ensures { result ≡ whole (expr_of book.now index.now r) }
+pub fn agrees(book: &Book, r: u16, m: u8) -> bool
+    requires { Marked book.now.bytes book.now.index r m }
+    ensures { result ≡ whole (expr_of book.now.bytes book.now.index r) }
 {
-    let t = field_at(book, index, r, 0);
+    let t = book.field_at(r, 0);
     if CJ <= m {
-        return call_agrees(book, index, r, m, t);
+        return call_agrees(book, r, m, t);
     }
     match m {
-        EC => constant(book, index, r, t),
-        ET => tuple(book, index, r, t),
-        EL => list(book, index, r, t),
-        E0 => injection(book, index, r, t, 0),
-        E1 => injection(book, index, r, t, 1),
-        EN => variant(book, index, r, t),
-        EB => block(book, index, r, t),
-        EM => two_arms(book, index, r, t),
-        EH => arms(book, index, r, t),
+        EC => constant(book, r, t),
+        ET => tuple(book, r, t),
+        EL => list(book, r, t),
+        E0 => injection(book, r, t, 0),
+        E1 => injection(book, r, t, 1),
+        EN => variant(book, r, t),
+        EB => block(book, r, t),
+        EM => two_arms(book, r, t),
+        EH => arms(book, r, t),
         _ => true,
     }
 }
 
 // The declared type of the value that field k of a record names.
-fn value_type(book: &[u8], index: &[u16], r: u16, k: usize) -> u16
-    requires lies { Lies book.now index.now r k }
-    requires stands { Stands book.now index.now (field book.now index.now r k) VALUE }
-    ensures { (Stands book.now index.now result TYPE) × (type_of book.now index.now result ≡ declared_of book.now index.now (field book.now index.now r k)) }
+fn value_type(book: &Book, r: u16, k: usize) -> u16
+    requires lies { Lies book.now.bytes book.now.index r k }
+    requires stands { Stands book.now.bytes book.now.index (field book.now.bytes book.now.index r k) VALUE }
+    ensures { (Stands book.now.bytes book.now.index result TYPE) × (type_of book.now.bytes book.now.index result ≡ declared_of book.now.bytes book.now.index (field book.now.bytes book.now.index r k)) }
 {
-    let v = field_at(book, index, r, k);
-    field_at(book, index, v, 0)
+    let v = book.field_at(r, k);
+    book.field_at(v, 0)
 }
 
 // A value that is a pair.
-fn pair_agrees(book: &[u8], index: &[u16], r: u16, t: u16) -> bool
-    requires stands { Stands book.now index.now r VALUE }
-    requires mark_is { mark book.now index.now r ≡ VP }
-    requires t_is { t ≡ field book.now index.now r 0 }
-    ensures { result ≡ value_agrees book.now index.now r }
+fn pair_agrees(book: &Book, r: u16, t: u16) -> bool
+    requires stands { Stands book.now.bytes book.now.index r VALUE }
+    requires mark_is { mark book.now.bytes book.now.index r ≡ VP }
+    requires t_is { t ≡ field book.now.bytes book.now.index r 0 }
+    ensures { result ≡ value_agrees book.now.bytes book.now.index r }
 {
-    if mark_at(book, index, t) != TP {
+    if book.mark_at(t) != TP {
         return false;
     }
-    if field_at(book, index, t, 0) != value_type(book, index, r, 1) {
+    if book.field_at(t, 0) != value_type(book, r, 1) {
         return false;
     }
-    field_at(book, index, t, 1) == value_type(book, index, r, 2)
+    book.field_at(t, 1) == value_type(book, r, 2)
 }
 
 // A value, by its mark.
-pub fn value_agrees(book: &[u8], index: &[u16], r: u16) -> bool
-    requires { Stands book.now index.now r VALUE }
-    ensures { result ≡ value_agrees book.now index.now r }
+pub fn value_agrees(book: &Book, r: u16) -> bool
+    requires { Stands book.now.bytes book.now.index r VALUE }
+    ensures { result ≡ value_agrees book.now.bytes book.now.index r }
 {
-    let t = field_at(book, index, r, 0);
-    match mark_at(book, index, r) {
-        VU => is_unit(book, index, t),
-        VL => side(book, index, TS, t, 0) == value_type(book, index, r, 1),
-        VR => side(book, index, TS, t, 1) == value_type(book, index, r, 1),
-        _ => pair_agrees(book, index, r, t),
+    let t = book.field_at(r, 0);
+    match book.mark_at(r) {
+        VU => is_unit(book, t),
+        VL => side(book, TS, t, 0) == value_type(book, r, 1),
+        VR => side(book, TS, t, 1) == value_type(book, r, 1),
+        _ => pair_agrees(book, r, t),
     }
 }

@@ -14,7 +14,7 @@ ghost use Rattle.typing.specs.Cycle.{Rows, Scoped, Enough, Stays, Bound, Stated,
 use binders::{fits, type_for};
 use book::fault::{Fault, Refusal};
 use book::format::{CK, EB, EH, EM, EV, SA, TS};
-use book::record::{field_at, mark_at};
+use book::record::Book;
 use parts::view::span_of;
 use shapes::part::{NONE, has_places, is_unit, place, type_of};
 use shapes::whole::agrees;
@@ -41,34 +41,32 @@ pub fn agree(holds: bool, r: u16) -> Checked
 
 // A variable: its name's type is the declared one.
 fn variable(
-    book: &[u8],
-    index: &[u16],
+    book: &Book,
     r: u16,
     vain: &mut [u8],
     scope: &[u16],
     live: usize,
     base: u16,
 ) -> Checked
-    requires marked { Marked book.now index.now r EV }
-    requires live { Live book.now index.now scope.now live base }
+    requires marked { Marked book.now.bytes book.now.index r EV }
+    requires live { Live book.now.bytes book.now.index scope.now live base }
     requires vain_length { length vain.old ≡ 4096 }
-    ensures { (result ≡ check (expr_of book.now index.now r) (scope_of book.now index.now scope.now live base)) × (length vain.new ≡ 4096) }
+    ensures { (result ≡ check (expr_of book.now.bytes book.now.index r) (scope_of book.now.bytes book.now.index scope.now live base)) × (length vain.new ≡ 4096) }
 {
-    let name = field_at(book, index, r, 1);
-    let found = type_for(book, index, scope, live, base, name, vain);
+    let name = book.field_at(r, 1);
+    let found = type_for(book, scope, live, base, name, vain);
     if found == NONE {
         return Checked::Refused(Refusal {
             fault: Fault::Undefined,
             place: r,
         });
     }
-    agree(field_at(book, index, r, 0) == found, r)
+    agree(book.field_at(r, 0) == found, r)
 }
 
 // A pattern where its binding is made, at record r: it fits, and has no name twice. It becomes the newest binding.
 fn bind(
-    book: &[u8],
-    index: &[u16],
+    book: &Book,
     r: u16,
     p: u16,
     t: u16,
@@ -79,13 +77,13 @@ fn bind(
     live: usize,
     base: u16,
 ) -> Checked
-    requires stands { Stands book.now index.now p PATTERN }
-    requires stands_t { Stands book.now index.now t TYPE }
-    requires scoped { Scoped book.now index.now doubled.now memo.old vain.old scope.old live base }
+    requires stands { Stands book.now.bytes book.now.index p PATTERN }
+    requires stands_t { Stands book.now.bytes book.now.index t TYPE }
+    requires scoped { Scoped book.now.bytes book.now.index doubled.now memo.old vain.old scope.old live base }
     requires live_in_range { live < 65280 }
-    ensures { Bound book.now index.now (binds r (pattern_of book.now index.now p) (type_of book.now index.now t)) p t live base scope.old result memo.new vain.new scope.new }
+    ensures { Bound book.now.bytes book.now.index (binds r (pattern_of book.now.bytes book.now.index p) (type_of book.now.bytes book.now.index t)) p t live base scope.old result memo.new vain.new scope.new }
 {
-    if !fits(book, index, p, t, memo) {
+    if !fits(book, p, t, memo) {
         return Checked::Refused(Refusal {
             fault: Fault::Ty,
             place: r,
@@ -105,8 +103,7 @@ fn bind(
 // An expression, where so many bindings are live: its parts, and then the whole. A variable has no parts.
 #[cycle(checking)]
 pub fn expression(
-    book: &[u8],
-    index: &[u16],
+    book: &Book,
     r: u16,
     doubled: &[u8],
     memo: &mut [u32],
@@ -115,15 +112,15 @@ pub fn expression(
     live: usize,
     base: u16,
 ) -> Checked
-    requires { (Stands book.now index.now r EXPRESSION) × ((Scoped book.now index.now doubled.now memo.old vain.old scope.old live base) × (Enough book.now index.now r live)) }
-    ensures { Stays book.now index.now (check (expr_of book.now index.now r) (scope_of book.now index.now scope.old live base)) live scope.old result memo.new vain.new scope.new }
+    requires { (Stands book.now.bytes book.now.index r EXPRESSION) × ((Scoped book.now.bytes book.now.index doubled.now memo.old vain.old scope.old live base) × (Enough book.now.bytes book.now.index r live)) }
+    ensures { Stays book.now.bytes book.now.index (check (expr_of book.now.bytes book.now.index r) (scope_of book.now.bytes book.now.index scope.old live base)) live scope.old result memo.new vain.new scope.new }
 {
-    let m = mark_at(book, index, r);
+    let m = book.mark_at(r);
     if m == EV {
-        return variable(book, index, r, vain, scope, live, base);
+        return variable(book, r, vain, scope, live, base);
     }
-    match parts(book, index, r, m, doubled, memo, vain, scope, live, base) {
-        Checked::Passed => agree(agrees(book, index, r, m), r),
+    match parts(book, r, m, doubled, memo, vain, scope, live, base) {
+        Checked::Passed => agree(agrees(book, r, m), r),
         Checked::Refused(w) => Checked::Refused(w),
     }
 }
@@ -131,8 +128,7 @@ pub fn expression(
 // The parts of an expression, by its mark.
 #[cycle(checking)]
 fn parts(
-    book: &[u8],
-    index: &[u16],
+    book: &Book,
     r: u16,
     m: u8,
     doubled: &[u8],
@@ -142,31 +138,30 @@ fn parts(
     live: usize,
     base: u16,
 ) -> Checked
-    requires { (Marked book.now index.now r m) × ((Scoped book.now index.now doubled.now memo.old vain.old scope.old live base) × ((Enough book.now index.now r live) × ((m ≡ EV → ⊥)))) }
-    ensures { Stays book.now index.now (parts_of book.now index.now r m (scope_of book.now index.now scope.old live base)) live scope.old result memo.new vain.new scope.new }
+    requires { (Marked book.now.bytes book.now.index r m) × ((Scoped book.now.bytes book.now.index doubled.now memo.old vain.old scope.old live base) × ((Enough book.now.bytes book.now.index r live) × ((m ≡ EV → ⊥)))) }
+    ensures { Stays book.now.bytes book.now.index (parts_of book.now.bytes book.now.index r m (scope_of book.now.bytes book.now.index scope.old live base)) live scope.old result memo.new vain.new scope.new }
 {
     if m == EB {
-        return block(book, index, r, doubled, memo, vain, scope, live, base);
+        return block(book, r, doubled, memo, vain, scope, live, base);
     }
     if m == EM {
-        return matching(book, index, r, 2, 2, doubled, memo, vain, scope, live, base);
+        return matching(book, r, 2, 2, doubled, memo, vain, scope, live, base);
     }
     if m == EH {
-        let n = field_at(book, index, r, 2) as usize;
-        return matching(book, index, r, 3, n, doubled, memo, vain, scope, live, base);
+        let n = book.field_at(r, 2) as usize;
+        return matching(book, r, 3, n, doubled, memo, vain, scope, live, base);
     }
     if m == CK {
-        let e = field_at(book, index, r, 1);
-        return expression(book, index, e, doubled, memo, vain, scope, live, base);
+        let e = book.field_at(r, 1);
+        return expression(book, e, doubled, memo, vain, scope, live, base);
     }
-    row(book, index, r, m, doubled, memo, vain, scope, live, base)
+    row(book, r, m, doubled, memo, vain, scope, live, base)
 }
 
 // The elements of a record's row.
 #[cycle(checking)]
 fn row(
-    book: &[u8],
-    index: &[u16],
+    book: &Book,
     r: u16,
     m: u8,
     doubled: &[u8],
@@ -176,14 +171,14 @@ fn row(
     live: usize,
     base: u16,
 ) -> Checked
-    requires { (Marked book.now index.now r m) × ((Scoped book.now index.now doubled.now memo.old vain.old scope.old live base) × (Enough book.now index.now r live)) }
-    ensures { Stays book.now index.now (row_of book.now index.now r m (scope_of book.now index.now scope.old live base)) live scope.old result memo.new vain.new scope.new }
+    requires { (Marked book.now.bytes book.now.index r m) × ((Scoped book.now.bytes book.now.index doubled.now memo.old vain.old scope.old live base) × (Enough book.now.bytes book.now.index r live)) }
+    ensures { Stays book.now.bytes book.now.index (row_of book.now.bytes book.now.index r m (scope_of book.now.bytes book.now.index scope.old live base)) live scope.old result memo.new vain.new scope.new }
 {
-    let span = span_of(book, index, r, m);
+    let span = span_of(book, r, m);
     let mut k: usize = 0;
     while k < span.count {
-        let e = field_at(book, index, r, span.from + span.stride * k);
-        match expression(book, index, e, doubled, memo, vain, scope, live, base) {
+        let e = book.field_at(r, span.from + span.stride * k);
+        match expression(book, e, doubled, memo, vain, scope, live, base) {
             Checked::Passed => {}
             Checked::Refused(w) => {
                 return Checked::Refused(w);
@@ -197,8 +192,7 @@ fn row(
 // A match of n arms, the first of whose patterns is field `from`: the scrutinee's type has those arms; the arms; the scrutinee.
 #[cycle(checking)]
 fn matching(
-    book: &[u8],
-    index: &[u16],
+    book: &Book,
     r: u16,
     from: usize,
     n: usize,
@@ -209,18 +203,18 @@ fn matching(
     live: usize,
     base: u16,
 ) -> Checked
-    requires { (ArmsAt book.now index.now r from n) × ((Scoped book.now index.now doubled.now memo.old vain.old scope.old live base) × (Enough book.now index.now r live)) }
-    ensures { Stays book.now index.now (match_of book.now index.now r from n (scope_of book.now index.now scope.old live base)) live scope.old result memo.new vain.new scope.new }
+    requires { (ArmsAt book.now.bytes book.now.index r from n) × ((Scoped book.now.bytes book.now.index doubled.now memo.old vain.old scope.old live base) × (Enough book.now.bytes book.now.index r live)) }
+    ensures { Stays book.now.bytes book.now.index (match_of book.now.bytes book.now.index r from n (scope_of book.now.bytes book.now.index scope.old live base)) live scope.old result memo.new vain.new scope.new }
 {
-    let e = field_at(book, index, r, 1);
-    let t = type_of(book, index, e);
-    if !has_places(book, index, t, n as u32) {
+    let e = book.field_at(r, 1);
+    let t = type_of(book, e);
+    if !has_places(book, t, n as u32) {
         return agree(false, r);
     }
     match arms(
-        book, index, r, from, n, t, doubled, memo, vain, scope, live, base,
+        book, r, from, n, t, doubled, memo, vain, scope, live, base,
     ) {
-        Checked::Passed => expression(book, index, e, doubled, memo, vain, scope, live, base),
+        Checked::Passed => expression(book, e, doubled, memo, vain, scope, live, base),
         Checked::Refused(w) => Checked::Refused(w),
     }
 }
@@ -228,8 +222,7 @@ fn matching(
 // The arms of a match on the type t.
 #[cycle(checking)]
 fn arms(
-    book: &[u8],
-    index: &[u16],
+    book: &Book,
     r: u16,
     from: usize,
     n: usize,
@@ -241,15 +234,14 @@ fn arms(
     live: usize,
     base: u16,
 ) -> Checked
-    requires { (ArmsAt book.now index.now r from n) × ((Places book.now index.now t n) × ((Scoped book.now index.now doubled.now memo.old vain.old scope.old live base) × (Enough book.now index.now r live))) }
-    ensures { Stays book.now index.now (arms_from book.now index.now r from n (type_of book.now index.now t) (scope_of book.now index.now scope.old live base) 0 n) live scope.old result memo.new vain.new scope.new }
+    requires { (ArmsAt book.now.bytes book.now.index r from n) × ((Places book.now.bytes book.now.index t n) × ((Scoped book.now.bytes book.now.index doubled.now memo.old vain.old scope.old live base) × (Enough book.now.bytes book.now.index r live))) }
+    ensures { Stays book.now.bytes book.now.index (arms_from book.now.bytes book.now.index r from n (type_of book.now.bytes book.now.index t) (scope_of book.now.bytes book.now.index scope.old live base) 0 n) live scope.old result memo.new vain.new scope.new }
 {
     let mut k: usize = 0;
     while k < n {
-        let s = place(book, index, TS, t, n as u32, k as u32);
+        let s = place(book, TS, t, n as u32, k as u32);
         match arm(
             book,
-            index,
             r,
             from + 2 * k,
             s,
@@ -273,8 +265,7 @@ fn arms(
 // The arm whose pattern is field j, of the type s: its expression, where its pattern is bound.
 #[cycle(checking)]
 fn arm(
-    book: &[u8],
-    index: &[u16],
+    book: &Book,
     r: u16,
     j: usize,
     s: u16,
@@ -285,13 +276,13 @@ fn arm(
     live: usize,
     base: u16,
 ) -> Checked
-    requires { (ArmAt book.now index.now r j) × ((Stands book.now index.now s TYPE) × ((Scoped book.now index.now doubled.now memo.old vain.old scope.old live base) × (Enough book.now index.now r live))) }
-    ensures { Stays book.now index.now (arm_of book.now index.now r j (type_of book.now index.now s) (scope_of book.now index.now scope.old live base)) live scope.old result memo.new vain.new scope.new }
+    requires { (ArmAt book.now.bytes book.now.index r j) × ((Stands book.now.bytes book.now.index s TYPE) × ((Scoped book.now.bytes book.now.index doubled.now memo.old vain.old scope.old live base) × (Enough book.now.bytes book.now.index r live))) }
+    ensures { Stays book.now.bytes book.now.index (arm_of book.now.bytes book.now.index r j (type_of book.now.bytes book.now.index s) (scope_of book.now.bytes book.now.index scope.old live base)) live scope.old result memo.new vain.new scope.new }
 {
-    let p = field_at(book, index, r, j);
-    let e = field_at(book, index, r, j + 1);
-    match bind(book, index, r, p, s, doubled, memo, vain, scope, live, base) {
-        Checked::Passed => expression(book, index, e, doubled, memo, vain, scope, live + 1, base),
+    let p = book.field_at(r, j);
+    let e = book.field_at(r, j + 1);
+    match bind(book, r, p, s, doubled, memo, vain, scope, live, base) {
+        Checked::Passed => expression(book, e, doubled, memo, vain, scope, live + 1, base),
         Checked::Refused(w) => Checked::Refused(w),
     }
 }
@@ -299,8 +290,7 @@ fn arm(
 // A block: its statements in order, and its end.
 #[cycle(checking)]
 fn block(
-    book: &[u8],
-    index: &[u16],
+    book: &Book,
     r: u16,
     doubled: &[u8],
     memo: &mut [u32],
@@ -309,17 +299,17 @@ fn block(
     live: usize,
     base: u16,
 ) -> Checked
-    requires { (Marked book.now index.now r EB) × ((Scoped book.now index.now doubled.now memo.old vain.old scope.old live base) × (Enough book.now index.now r live)) }
-    ensures { Stays book.now index.now (block_of book.now index.now r (scope_of book.now index.now scope.old live base)) live scope.old result memo.new vain.new scope.new }
+    requires { (Marked book.now.bytes book.now.index r EB) × ((Scoped book.now.bytes book.now.index doubled.now memo.old vain.old scope.old live base) × (Enough book.now.bytes book.now.index r live)) }
+    ensures { Stays book.now.bytes book.now.index (block_of book.now.bytes book.now.index r (scope_of book.now.bytes book.now.index scope.old live base)) live scope.old result memo.new vain.new scope.new }
 {
-    let n = field_at(book, index, r, 1) as usize;
+    let n = book.field_at(r, 1) as usize;
     let mut at = live;
     let mut k: usize = 0;
     while k < n {
-        let s = field_at(book, index, r, 2 + k);
-        match stmt(book, index, s, doubled, memo, vain, scope, at, base) {
+        let s = book.field_at(r, 2 + k);
+        match stmt(book, s, doubled, memo, vain, scope, at, base) {
             Checked::Passed => {
-                at = entered(book, index, s, at);
+                at = entered(book, s, at);
             }
             Checked::Refused(w) => {
                 return Checked::Refused(w);
@@ -327,20 +317,20 @@ fn block(
         }
         k += 1;
     }
-    let end = field_at(book, index, r, 2 + n);
+    let end = book.field_at(r, 2 + n);
     if end == 65535 {
         return Checked::Passed;
     }
-    expression(book, index, end, doubled, memo, vain, scope, at, base)
+    expression(book, end, doubled, memo, vain, scope, at, base)
 }
 
 // How many bindings are live after statement s.
-fn entered(book: &[u8], index: &[u16], s: u16, live: usize) -> usize
-    requires stands { Stands book.now index.now s STATEMENT }
+fn entered(book: &Book, s: u16, live: usize) -> usize
+    requires stands { Stands book.now.bytes book.now.index s STATEMENT }
     requires live_in_range { live < 65280 }
-    ensures { result ≡ live_after book.now index.now s live }
+    ensures { result ≡ live_after book.now.bytes book.now.index s live }
 {
-    if mark_at(book, index, s) == SA {
+    if book.mark_at(s) == SA {
         return live + 1;
     }
     live
@@ -349,8 +339,7 @@ fn entered(book: &[u8], index: &[u16], s: u16, live: usize) -> usize
 // A statement: its expression, and then its binding, or that it is of type unit.
 #[cycle(checking)]
 fn stmt(
-    book: &[u8],
-    index: &[u16],
+    book: &Book,
     s: u16,
     doubled: &[u8],
     memo: &mut [u32],
@@ -359,18 +348,18 @@ fn stmt(
     live: usize,
     base: u16,
 ) -> Checked
-    requires { (Stands book.now index.now s STATEMENT) × ((Scoped book.now index.now doubled.now memo.old vain.old scope.old live base) × (Enough book.now index.now s live)) }
-    ensures { Stated book.now index.now s live base scope.old result memo.new vain.new scope.new }
+    requires { (Stands book.now.bytes book.now.index s STATEMENT) × ((Scoped book.now.bytes book.now.index doubled.now memo.old vain.old scope.old live base) × (Enough book.now.bytes book.now.index s live)) }
+    ensures { Stated book.now.bytes book.now.index s live base scope.old result memo.new vain.new scope.new }
 {
-    if mark_at(book, index, s) != SA {
-        return does(book, index, s, doubled, memo, vain, scope, live, base);
+    if book.mark_at(s) != SA {
+        return does(book, s, doubled, memo, vain, scope, live, base);
     }
-    let p = field_at(book, index, s, 0);
-    let e = field_at(book, index, s, 1);
-    match expression(book, index, e, doubled, memo, vain, scope, live, base) {
+    let p = book.field_at(s, 0);
+    let e = book.field_at(s, 1);
+    match expression(book, e, doubled, memo, vain, scope, live, base) {
         Checked::Passed => {
-            let t = type_of(book, index, e);
-            bind(book, index, s, p, t, doubled, memo, vain, scope, live, base)
+            let t = type_of(book, e);
+            bind(book, s, p, t, doubled, memo, vain, scope, live, base)
         }
         Checked::Refused(w) => Checked::Refused(w),
     }
@@ -379,8 +368,7 @@ fn stmt(
 // A statement that is an expression alone.
 #[cycle(checking)]
 fn does(
-    book: &[u8],
-    index: &[u16],
+    book: &Book,
     s: u16,
     doubled: &[u8],
     memo: &mut [u32],
@@ -389,14 +377,14 @@ fn does(
     live: usize,
     base: u16,
 ) -> Checked
-    requires { (Stands book.now index.now s STATEMENT) × (((mark book.now index.now s ≡ SA → ⊥)) × ((Scoped book.now index.now doubled.now memo.old vain.old scope.old live base) × (Enough book.now index.now s live))) }
-    ensures { Stays book.now index.now (statement_of book.now index.now s (scope_of book.now index.now scope.old live base)) live scope.old result memo.new vain.new scope.new }
+    requires { (Stands book.now.bytes book.now.index s STATEMENT) × (((mark book.now.bytes book.now.index s ≡ SA → ⊥)) × ((Scoped book.now.bytes book.now.index doubled.now memo.old vain.old scope.old live base) × (Enough book.now.bytes book.now.index s live))) }
+    ensures { Stays book.now.bytes book.now.index (statement_of book.now.bytes book.now.index s (scope_of book.now.bytes book.now.index scope.old live base)) live scope.old result memo.new vain.new scope.new }
 {
-    let e = field_at(book, index, s, 0);
-    match expression(book, index, e, doubled, memo, vain, scope, live, base) {
+    let e = book.field_at(s, 0);
+    match expression(book, e, doubled, memo, vain, scope, live, base) {
         Checked::Passed => {
-            let t = type_of(book, index, e);
-            agree(is_unit(book, index, t), s)
+            let t = type_of(book, e);
+            agree(is_unit(book, t), s)
         }
         Checked::Refused(w) => Checked::Refused(w),
     }
@@ -404,17 +392,16 @@ fn does(
 
 // A function: its parameter names, its body in a scope of its parameters only, and what it gives.
 pub fn function(
-    book: &[u8],
-    index: &[u16],
+    book: &Book,
     f: u16,
     doubled: &[u8],
     memo: &mut [u32],
     vain: &mut [u8],
     scope: &mut [u16],
 ) -> Checked
-    requires stands { Stands book.now index.now f FUNCTION }
-    requires rows { Rows book.now index.now doubled.now memo.old vain.old scope.old }
-    ensures { Stays book.now index.now (check_fun (fun_of book.now index.now f)) 0 scope.old result memo.new vain.new scope.new }
+    requires stands { Stands book.now.bytes book.now.index f FUNCTION }
+    requires rows { Rows book.now.bytes book.now.index doubled.now memo.old vain.old scope.old }
+    ensures { Stays book.now.bytes book.now.index (check_fun (fun_of book.now.bytes book.now.index f)) 0 scope.old result memo.new vain.new scope.new }
 {
     if doubled[f as usize] == 1 {
         return Checked::Refused(Refusal {
@@ -422,10 +409,10 @@ pub fn function(
             place: f,
         });
     }
-    let n = field_at(book, index, f, 1) as usize;
-    let e = field_at(book, index, f, 2 + 2 * n);
-    match expression(book, index, e, doubled, memo, vain, scope, 0, f) {
-        Checked::Passed => agree(type_of(book, index, e) == field_at(book, index, f, 0), f),
+    let n = book.field_at(f, 1) as usize;
+    let e = book.field_at(f, 2 + 2 * n);
+    match expression(book, e, doubled, memo, vain, scope, 0, f) {
+        Checked::Passed => agree(type_of(book, e) == book.field_at(f, 0), f),
         Checked::Refused(w) => Checked::Refused(w),
     }
 }

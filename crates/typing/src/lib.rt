@@ -15,7 +15,7 @@ use binders::doubles;
 use book::fault::{ReadAnswer, Refusal};
 use book::format::{FUNCTION, VALUE, kind_of};
 use book::read::index_book;
-use book::record::mark_at;
+use book::record::Book;
 use shapes::part::NONE;
 use shapes::whole::value_agrees;
 
@@ -35,108 +35,110 @@ pub fn check(book: &[u8]) -> CheckAnswer
     let indexed = index_book(book);
     let answer = indexed.answer;
     match answer {
-        ReadAnswer::Records(n) => match records(book, &indexed.index, n) {
-            Checked::Passed => CheckAnswer::Records(n),
-            Checked::Refused(w) => CheckAnswer::Refused(w),
-        },
+        ReadAnswer::Records(n) => {
+            let opened = Book::new(book, &indexed.index, n);
+            match records(&opened, n) {
+                Checked::Passed => CheckAnswer::Records(n),
+                Checked::Refused(w) => CheckAnswer::Refused(w),
+            }
+        }
         ReadAnswer::Refused(w) => CheckAnswer::Refused(w),
     }
 }
 
 // The records of a book that READ accepts: values, then functions, then the root.
-fn records(book: &[u8], index: &[u16], n: u16) -> Checked
-    requires valid { Valid book.now index.now n }
-    requires tiles { Tiles book.now index.now n }
-    ensures { result ≡ checking book.now index.now n }
+fn records(book: &Book, n: u16) -> Checked
+    requires valid { Valid book.now.bytes book.now.index n }
+    requires tiles { Tiles book.now.bytes book.now.index n }
+    ensures { result ≡ checking book.now.bytes book.now.index n }
 {
-    match values(book, index, n) {
+    match values(book, n) {
         Checked::Refused(w) => {
             return Checked::Refused(w);
         }
         Checked::Passed => {}
     }
     let mut doubled = [0u8; 4096];
-    doubles(book, index, n, &mut doubled);
+    doubles(book, n, &mut doubled);
     if n <= 512 {
-        return few(book, index, n, &doubled);
+        return few(book, n, &doubled);
     }
-    many(book, index, n, &doubled)
+    many(book, n, &doubled)
 }
 
 // What follows the values in a small book. All pairs of at most 512 records have their bit in a memo of 8192 words; that none is missing
 // is a matter of speed alone.
-fn few(book: &[u8], index: &[u16], n: u16, doubled: &[u8]) -> Checked
-    requires valid { Valid book.now index.now n }
-    requires tiles { Tiles book.now index.now n }
-    requires doubled { Doubled book.now index.now n doubled.now }
-    ensures { result ≡ and_then (in_order (function_at book.now index.now) 0 n) (check (expr_of book.now index.now (n - 1)) root_scope) }
+fn few(book: &Book, n: u16, doubled: &[u8]) -> Checked
+    requires valid { Valid book.now.bytes book.now.index n }
+    requires tiles { Tiles book.now.bytes book.now.index n }
+    requires doubled { Doubled book.now.bytes book.now.index n doubled.now }
+    ensures { result ≡ and_then (in_order (function_at book.now.bytes book.now.index) 0 n) (check (expr_of book.now.bytes book.now.index (n - 1)) root_scope) }
 {
-    sized::<8192>(book, index, n, doubled)
+    sized::<8192>(book, n, doubled)
 }
 
 // The same in any book, with a memo that is dear to clear.
-fn many(book: &[u8], index: &[u16], n: u16, doubled: &[u8]) -> Checked
-    requires valid { Valid book.now index.now n }
-    requires tiles { Tiles book.now index.now n }
-    requires doubled { Doubled book.now index.now n doubled.now }
-    ensures { result ≡ and_then (in_order (function_at book.now index.now) 0 n) (check (expr_of book.now index.now (n - 1)) root_scope) }
+fn many(book: &Book, n: u16, doubled: &[u8]) -> Checked
+    requires valid { Valid book.now.bytes book.now.index n }
+    requires tiles { Tiles book.now.bytes book.now.index n }
+    requires doubled { Doubled book.now.bytes book.now.index n doubled.now }
+    ensures { result ≡ and_then (in_order (function_at book.now.bytes book.now.index) 0 n) (check (expr_of book.now.bytes book.now.index (n - 1)) root_scope) }
 {
-    sized::<524288>(book, index, n, doubled)
+    sized::<524288>(book, n, doubled)
 }
 
 // The same with a memo of N words that knows no pair yet: the proof counts to no N.
-fn sized<const N: usize>(book: &[u8], index: &[u16], n: u16, doubled: &[u8]) -> Checked
+fn sized<const N: usize>(book: &Book, n: u16, doubled: &[u8]) -> Checked
     requires size { N * 4 < 2 ^ 63 }
-    requires valid { Valid book.now index.now n }
-    requires tiles { Tiles book.now index.now n }
-    requires doubled { Doubled book.now index.now n doubled.now }
-    ensures { result ≡ and_then (in_order (function_at book.now index.now) 0 n) (check (expr_of book.now index.now (n - 1)) root_scope) }
+    requires valid { Valid book.now.bytes book.now.index n }
+    requires tiles { Tiles book.now.bytes book.now.index n }
+    requires doubled { Doubled book.now.bytes book.now.index n doubled.now }
+    ensures { result ≡ and_then (in_order (function_at book.now.bytes book.now.index) 0 n) (check (expr_of book.now.bytes book.now.index (n - 1)) root_scope) }
 {
     let mut memo = [0u32; N];
-    scoped(book, index, n, doubled, &mut memo)
+    scoped(book, n, doubled, &mut memo)
 }
 
 // The functions and the root, with a memo that knows no pair yet.
-fn scoped(book: &[u8], index: &[u16], n: u16, doubled: &[u8], memo: &mut [u32]) -> Checked
-    requires valid { Valid book.now index.now n }
-    requires tiles { Tiles book.now index.now n }
-    requires doubled { Doubled book.now index.now n doubled.now }
-    requires known { Known book.now index.now memo.old }
-    ensures { result ≡ and_then (in_order (function_at book.now index.now) 0 n) (check (expr_of book.now index.now (n - 1)) root_scope) }
+fn scoped(book: &Book, n: u16, doubled: &[u8], memo: &mut [u32]) -> Checked
+    requires valid { Valid book.now.bytes book.now.index n }
+    requires tiles { Tiles book.now.bytes book.now.index n }
+    requires doubled { Doubled book.now.bytes book.now.index n doubled.now }
+    requires known { Known book.now.bytes book.now.index memo.old }
+    ensures { result ≡ and_then (in_order (function_at book.now.bytes book.now.index) 0 n) (check (expr_of book.now.bytes book.now.index (n - 1)) root_scope) }
 {
     let mut vain = [0u8; 4096];
     let mut scope = [0u16; 130560];
-    expressions(book, index, n, doubled, memo, &mut vain, &mut scope)
+    expressions(book, n, doubled, memo, &mut vain, &mut scope)
 }
 
 // The functions, and then the root.
 fn expressions(
-    book: &[u8],
-    index: &[u16],
+    book: &Book,
     n: u16,
     doubled: &[u8],
     memo: &mut [u32],
     vain: &mut [u8],
     scope: &mut [u16],
 ) -> Checked
-    requires valid { Valid book.now index.now n }
-    requires rows { Rows book.now index.now doubled.now memo.old vain.old scope.old }
-    ensures { result ≡ and_then (in_order (function_at book.now index.now) 0 n) (check (expr_of book.now index.now (n - 1)) root_scope) }
+    requires valid { Valid book.now.bytes book.now.index n }
+    requires rows { Rows book.now.bytes book.now.index doubled.now memo.old vain.old scope.old }
+    ensures { result ≡ and_then (in_order (function_at book.now.bytes book.now.index) 0 n) (check (expr_of book.now.bytes book.now.index (n - 1)) root_scope) }
 {
-    match functions(book, index, n, doubled, memo, vain, scope) {
-        Checked::Passed => expression(book, index, n - 1, doubled, memo, vain, scope, 0, NONE),
+    match functions(book, n, doubled, memo, vain, scope) {
+        Checked::Passed => expression(book, n - 1, doubled, memo, vain, scope, 0, NONE),
         Checked::Refused(w) => Checked::Refused(w),
     }
 }
 
 // The value records in their order.
-fn values(book: &[u8], index: &[u16], n: u16) -> Checked
-    requires { Valid book.now index.now n }
-    ensures { result ≡ in_order (value_at book.now index.now) 0 n }
+fn values(book: &Book, n: u16) -> Checked
+    requires { Valid book.now.bytes book.now.index n }
+    ensures { result ≡ in_order (value_at book.now.bytes book.now.index) 0 n }
 {
     let mut r: u16 = 0;
     while r < n {
-        match value_at(book, index, r) {
+        match value_at(book, r) {
             Checked::Refused(w) => {
                 return Checked::Refused(w);
             }
@@ -148,33 +150,32 @@ fn values(book: &[u8], index: &[u16], n: u16) -> Checked
 }
 
 // Record r, if it is a value.
-fn value_at(book: &[u8], index: &[u16], r: u16) -> Checked
-    requires { Among book.now index.now r }
-    ensures { result ≡ value_at book.now index.now r }
+fn value_at(book: &Book, r: u16) -> Checked
+    requires { Among book.now.bytes book.now.index r }
+    ensures { result ≡ value_at book.now.bytes book.now.index r }
 {
-    if kind_of(mark_at(book, index, r)) != VALUE {
+    if kind_of(book.mark_at(r)) != VALUE {
         return Checked::Passed;
     }
-    agree(value_agrees(book, index, r), r)
+    agree(value_agrees(book, r), r)
 }
 
 // The functions in their order, called or not.
 fn functions(
-    book: &[u8],
-    index: &[u16],
+    book: &Book,
     n: u16,
     doubled: &[u8],
     memo: &mut [u32],
     vain: &mut [u8],
     scope: &mut [u16],
 ) -> Checked
-    requires valid { Valid book.now index.now n }
-    requires rows { Rows book.now index.now doubled.now memo.old vain.old scope.old }
-    ensures { Stays book.now index.now (in_order (function_at book.now index.now) 0 n) 0 scope.old result memo.new vain.new scope.new }
+    requires valid { Valid book.now.bytes book.now.index n }
+    requires rows { Rows book.now.bytes book.now.index doubled.now memo.old vain.old scope.old }
+    ensures { Stays book.now.bytes book.now.index (in_order (function_at book.now.bytes book.now.index) 0 n) 0 scope.old result memo.new vain.new scope.new }
 {
     let mut r: u16 = 0;
     while r < n {
-        match function_at(book, index, r, doubled, memo, vain, scope) {
+        match function_at(book, r, doubled, memo, vain, scope) {
             Checked::Refused(w) => {
                 return Checked::Refused(w);
             }
@@ -187,20 +188,19 @@ fn functions(
 
 // Record r, if it is a function.
 fn function_at(
-    book: &[u8],
-    index: &[u16],
+    book: &Book,
     r: u16,
     doubled: &[u8],
     memo: &mut [u32],
     vain: &mut [u8],
     scope: &mut [u16],
 ) -> Checked
-    requires among { Among book.now index.now r }
-    requires rows { Rows book.now index.now doubled.now memo.old vain.old scope.old }
-    ensures { Stays book.now index.now (function_at book.now index.now r) 0 scope.old result memo.new vain.new scope.new }
+    requires among { Among book.now.bytes book.now.index r }
+    requires rows { Rows book.now.bytes book.now.index doubled.now memo.old vain.old scope.old }
+    ensures { Stays book.now.bytes book.now.index (function_at book.now.bytes book.now.index r) 0 scope.old result memo.new vain.new scope.new }
 {
-    if kind_of(mark_at(book, index, r)) != FUNCTION {
+    if kind_of(book.mark_at(r)) != FUNCTION {
         return Checked::Passed;
     }
-    function(book, index, r, doubled, memo, vain, scope)
+    function(book, r, doubled, memo, vain, scope)
 }

@@ -15,7 +15,7 @@ decreases-fits_row l = 2 * l.p
 
 abbrev pub invariant-fits_row-loop-k : goal.invariant-fits_row-loop-k
 invariant-fits_row-loop-k l =
-    Fitting l.book l.index (fits (pattern_of l.book l.index l.p) (type_of l.book l.index l.t)) l.n (λ j. pattern_of l.book l.index (field l.book l.index l.p j)) (type_of l.book l.index l.t) l.k l.initial.memo l.memo
+    Fitting l.book.bytes l.book.index (fits (pattern_of l.book.bytes l.book.index l.p) (type_of l.book.bytes l.book.index l.t)) l.n (λ j. pattern_of l.book.bytes l.book.index (field l.book.bytes l.book.index l.p j)) (type_of l.book.bytes l.book.index l.t) l.k l.initial.memo l.memo
 
 abbrev pub decreases-fits_row-loop-k : goal.decreases-fits_row-loop-k
 decreases-fits_row-loop-k l = l.n - l.k

@@ -16,7 +16,7 @@ decreases-note_row l = 2 * l.p
 
 abbrev pub invariant-note_row-loop-k : goal.invariant-note_row-loop-k
 invariant-note_row-loop-k l =
-    Nameless l.book l.index l.nameless × Meets l.stamp (names (pattern_of l.book l.index l.p)) l.initial.met 1 (λ j. names (pattern_of l.book l.index (field l.book l.index l.p j))) 1 l.n l.k l.any l.met
+    Nameless l.book.bytes l.book.index l.nameless × Meets l.stamp (names (pattern_of l.book.bytes l.book.index l.p)) l.initial.met 1 (λ j. names (pattern_of l.book.bytes l.book.index (field l.book.bytes l.book.index l.p j))) 1 l.n l.k l.any l.met
 
 abbrev pub decreases-note_row-loop-k : goal.decreases-note_row-loop-k
 decreases-note_row-loop-k l = l.n - l.k

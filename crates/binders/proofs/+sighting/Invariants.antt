@@ -15,7 +15,7 @@ decreases-type_in_row l = 2 * l.p
 
 abbrev pub invariant-type_in_row-loop-k : goal.invariant-type_in_row-loop-k
 invariant-type_in_row-loop-k l =
-    Memo l.book l.index l.name l.missing × Skips l.name (pattern_of l.book l.index l.p) 1 (λ j. pattern_of l.book l.index (field l.book l.index l.p j)) 1 l.n l.k
+    Memo l.book.bytes l.book.index l.name l.missing × Skips l.name (pattern_of l.book.bytes l.book.index l.p) 1 (λ j. pattern_of l.book.bytes l.book.index (field l.book.bytes l.book.index l.p j)) 1 l.n l.k
 
 abbrev pub decreases-type_in_row-loop-k : goal.decreases-type_in_row-loop-k
 decreases-type_in_row-loop-k l = l.n - l.k

@@ -12,7 +12,7 @@ use Rattle.binders.proofs.params_repeat.Given as goal
 
 abbrev pub invariant-loop-k : goal.invariant-loop-k
 invariant-loop-k l =
-    Meets (l.f + 1) (param_names (params_of (fun_of l.book l.index l.f))) l.initial.met 2 (λ j. field l.book l.index l.f j ∷ []) 2 l.n l.k true l.met
+    Meets (l.f + 1) (param_names (params_of (fun_of l.book.bytes l.book.index l.f))) l.initial.met 2 (λ j. field l.book.bytes l.book.index l.f j ∷ []) 2 l.n l.k true l.met
 
 abbrev pub decreases-loop-k : goal.decreases-loop-k
 decreases-loop-k l = l.n - l.k

@@ -16,7 +16,7 @@ decreases-get_row l = 2 * l.p
 
 abbrev pub invariant-get_row-loop-k : goal.invariant-get_row-loop-k
 invariant-get_row-loop-k l =
-    Memo l.book l.index l.name l.missing × Passes (find l.name (pattern_of l.book l.index l.p)) l.name 1 (λ j. pattern_of l.book l.index (field l.book l.index l.p j)) 1 l.n l.k l.initial.nodes l.nodes
+    Memo l.book.bytes l.book.index l.name l.missing × Passes (find l.name (pattern_of l.book.bytes l.book.index l.p)) l.name 1 (λ j. pattern_of l.book.bytes l.book.index (field l.book.bytes l.book.index l.p j)) 1 l.n l.k l.initial.nodes l.nodes
 
 abbrev pub decreases-get_row-loop-k : goal.decreases-get_row-loop-k
 decreases-get_row-loop-k l = l.n - l.k

@@ -9,7 +9,7 @@ use Rattle.pattern.proofs.get_among.Given as goal
 
 abbrev pub invariant-loop-k : goal.invariant-loop-k
 invariant-loop-k l =
-    Passes (find l.name (pattern_of l.book l.index l.p)) l.name 1 (λ j. pattern_of l.book l.index (field l.book l.index l.p j)) 1 l.n l.k l.initial.nodes l.nodes
+    Passes (find l.name (pattern_of l.book.bytes l.book.index l.p)) l.name 1 (λ j. pattern_of l.book.bytes l.book.index (field l.book.bytes l.book.index l.p j)) 1 l.n l.k l.initial.nodes l.nodes
 
 abbrev pub decreases-loop-k : goal.decreases-loop-k
 decreases-loop-k l = l.n - l.k

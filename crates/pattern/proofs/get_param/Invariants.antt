@@ -9,7 +9,7 @@ use Rattle.pattern.proofs.get_param.Given as goal
 
 abbrev pub invariant-loop-k : goal.invariant-loop-k
 invariant-loop-k l =
-    Passes (find l.name (params_pattern (params_of (fun_of l.book l.index l.f)))) l.name 2 (λ j. name (field l.book l.index l.f j)) 2 l.n l.k l.initial.nodes l.nodes
+    Passes (find l.name (params_pattern (params_of (fun_of l.book.bytes l.book.index l.f)))) l.name 2 (λ j. name (field l.book.bytes l.book.index l.f j)) 2 l.n l.k l.initial.nodes l.nodes
 
 abbrev pub decreases-loop-k : goal.decreases-loop-k
 decreases-loop-k l = l.n - l.k

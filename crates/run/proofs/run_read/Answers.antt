@@ -1,7 +1,8 @@
 -- `run_read` meets its contract.
 -- Assumes nothing.
 use Rattle.run.proofs.Ends.{well_counts, read_well, read_bad}
-use Rattle.nodes.specs.Given.{text, given}
+use Rattle.book.specs.Text.{text}
+use Rattle.nodes.specs.Given.{given}
 use Rattle.run.proofs.run_read.Goals as goal
 
 pub run_table-requires : goal.run_table-requires
@@ -10,8 +11,8 @@ run_table-requires c =
 
 pub returns-in-Well : goal.returns-in-Well
 returns-in-Well c =
-    read_well (given (text c.args.book.now c.args.index.now c.args.records) c.args.witnesses.now c.args.nodes.now) c.args.count c.args.cells.now c.judge_table.ensures c.in-Well.is c.run_table.ensures
+    read_well (given c.args.book.now c.args.witnesses.now c.args.nodes.now) c.args.count c.args.cells.now c.judge_table.ensures c.in-Well.is c.run_table.ensures
 
 pub returns-in-BadAt : goal.returns-in-BadAt
 returns-in-BadAt c =
-    read_bad (given (text c.args.book.now c.args.index.now c.args.records) c.args.witnesses.now c.args.nodes.now) c.args.count c.args.cells.now c.judge_table.ensures c.in-BadAt.is c.requires.cells_is
+    read_bad (given c.args.book.now c.args.witnesses.now c.args.nodes.now) c.args.count c.args.cells.now c.judge_table.ensures c.in-BadAt.is c.requires.cells_is

@@ -2,13 +2,14 @@
 -- Assumes nothing.
 use mathlib.Core.Path.{◌∙◌}
 use Rattle.run.proofs.Ends.{table_full, table_ran}
-use Rattle.nodes.specs.Given.{text, given}
+use Rattle.book.specs.Text.{text}
+use Rattle.nodes.specs.Given.{given}
 use Rattle.run.proofs.run_table.Goals as goal
 
 pub returns-then-p : goal.returns-then-p
 returns-then-p c =
-    table_full (given (text c.args.book.now c.args.index.now c.args.records) c.args.witnesses.now c.args.nodes.now) c.args.count c.requires.cells_is c.seed_cells-p.ensures c.if-p.true c.seed_cells-p.auto.cells c.clear.ensures
+    table_full (given c.args.book.now c.args.witnesses.now c.args.nodes.now) c.args.count c.requires.cells_is c.seed_cells-p.ensures c.if-p.true c.seed_cells-p.auto.cells c.clear.ensures
 
 pub returns : goal.returns
 returns c =
-    table_ran (given (text c.args.book.now c.args.index.now c.args.records) c.args.witnesses.now c.args.nodes.now) c.args.count c.requires.cells_is c.seed_cells-p.ensures c.if-p.false c.run_machine-s.ensures (c.run_machine-s.auto.cells ∙ c.seed_cells-p.auto.cells) c.answer_of.ensures
+    table_ran (given c.args.book.now c.args.witnesses.now c.args.nodes.now) c.args.count c.requires.cells_is c.seed_cells-p.ensures c.if-p.false c.run_machine-s.ensures (c.run_machine-s.auto.cells ∙ c.seed_cells-p.auto.cells) c.answer_of.ensures

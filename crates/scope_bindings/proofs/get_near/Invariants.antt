@@ -6,7 +6,7 @@ use Rattle.scope_bindings.proofs.get_near.Given as goal
 
 abbrev pub invariant-loop-at : goal.invariant-loop-at
 invariant-loop-at l =
-    Misses (lookup l.name (newest l.book l.index l.bindings l.count)) l.book l.index l.bindings l.count l.name l.at l.initial.nodes l.nodes
+    Misses (lookup l.name (newest l.book.bytes l.book.index l.bindings l.count)) l.book.bytes l.book.index l.bindings l.count l.name l.at l.initial.nodes l.nodes
 
 abbrev pub decreases-loop-at : goal.decreases-loop-at
 decreases-loop-at l = l.at

@@ -7,7 +7,7 @@ use Rattle.scope_bindings.proofs.get_newest.Given as goal
 
 abbrev pub invariant-loop-at : goal.invariant-loop-at
 invariant-loop-at l =
-    Memo l.book l.index l.name l.missing × Misses (lookup_below l.book l.index l.bindings l.count l.from l.name) l.book l.index l.bindings l.count l.name l.at l.initial.nodes l.nodes
+    Memo l.book.bytes l.book.index l.name l.missing × Misses (lookup_below l.book.bytes l.book.index l.bindings l.count l.from l.name) l.book.bytes l.book.index l.bindings l.count l.name l.at l.initial.nodes l.nodes
 
 abbrev pub decreases-loop-at : goal.decreases-loop-at
 decreases-loop-at l = l.at

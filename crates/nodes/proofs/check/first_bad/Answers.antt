@@ -3,7 +3,7 @@
 use borrow.Author.Rules.{rules}
 use borrow.Author.Count.{below_none, below_more}
 use native.Mathlib.Nat.{sub-zero}
-use Rattle.nodes.specs.Given.{text}
+use Rattle.book.specs.Text.{text}
 use Rattle.nodes.proofs.Checks.{operand_by, formed_by, formed_not, scan_on, scan_stops, scan_ends}
 use Rattle.nodes.proofs.check.first_bad.Goals as goal
 

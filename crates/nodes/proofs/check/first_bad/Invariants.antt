@@ -3,19 +3,19 @@
 use Prim.Native.Nat.{ℕ, ◌-◌, ◌≤◌, ◌<◌}
 use mathlib.Core.Bool.{true}
 use mathlib.Core.Path.{◌≡◌}
-use Rattle.nodes.specs.Given.{text}
+use Rattle.book.specs.Text.{text}
 use Rattle.nodes.specs.Nodes.{operand_fits, first_bad}
 use Rattle.nodes.proofs.check.first_bad.Given as goal
 
 abbrev pub invariant-loop-k : goal.invariant-loop-k
-invariant-loop-k l = (l.k ≤ 2) × ((j : ℕ) → j < l.k → operand_fits (text l.book l.index l.records) l.nodes l.n j ≡ true)
+invariant-loop-k l = (l.k ≤ 2) × ((j : ℕ) → j < l.k → operand_fits l.book l.nodes l.n j ≡ true)
 
 abbrev pub decreases-loop-k : goal.decreases-loop-k
 decreases-loop-k l = 2 - l.k
 
 abbrev pub invariant-scan : goal.invariant-scan
 invariant-scan l =
-    (l.n ≤ l.count) × (first_bad (text l.book l.index l.records) l.nodes 0 l.count ≡ first_bad (text l.book l.index l.records) l.nodes l.n (l.count - l.n))
+    (l.n ≤ l.count) × (first_bad l.book l.nodes 0 l.count ≡ first_bad l.book l.nodes l.n (l.count - l.n))
 
 abbrev pub decreases-scan : goal.decreases-scan
 decreases-scan l = l.count - l.n

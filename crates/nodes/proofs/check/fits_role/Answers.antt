@@ -1,6 +1,6 @@
 -- `nodes::fits_role` meets its contract: in each arm the role's test, and the law `rest` has the default.
 -- Assumes nothing.
-use Rattle.nodes.specs.Given.{text}
+use Rattle.book.specs.Text.{text}
 use Rattle.nodes.specs.Nodes.{fits}
 use Rattle.nodes.proofs.Checks.{fits_none}
 use Rattle.nodes.proofs.check.fits_role.Goals as goal
@@ -28,4 +28,4 @@ returns-in-4 c = rw c.in-4.is
 pub returns-in_default : goal.returns-in_default
 unfolding fits
 returns-in_default c =
-    fits_none (text c.args.book.now c.args.index.now c.args.records) c.args.role c.args.n c.args.x c.in_default.in_default-own.rest
+    fits_none c.args.book.now c.args.role c.args.n c.args.x c.in_default.in_default-own.rest

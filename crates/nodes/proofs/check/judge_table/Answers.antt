@@ -1,6 +1,6 @@
 -- `nodes::judge_table` meets its contract: one law for each way.
 -- Assumes nothing.
-use Rattle.nodes.specs.Given.{text}
+use Rattle.book.specs.Text.{text}
 use Rattle.nodes.proofs.Checks.{judge_none, judge_many, judge_short, judge_well, judge_bad}
 use Rattle.nodes.proofs.check.judge_table.Goals as goal
 

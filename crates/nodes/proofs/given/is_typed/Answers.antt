@@ -2,7 +2,7 @@
 -- Assumes nothing.
 use mathlib.Core.Path.{sym, ◌∙◌}
 use Rattle.book.specs.Format.{VALUE}
-use Rattle.nodes.specs.Given.{text}
+use Rattle.book.specs.Text.{text}
 use Rattle.nodes.proofs.Checks.{holds_stands, type_lies}
 use Rattle.nodes.proofs.given.is_typed.Goals as goal
 

@@ -11,7 +11,7 @@ use Rattle.parts.proofs.part.close_all.Given as goal
 
 abbrev pub invariant-loop-k : goal.invariant-loop-k
 invariant-loop-k l =
-    (l.k ≤ l.count) × (length l.nodes ≡ length l.initial.nodes) × ((s : Stored) (t : List ℕ) → Done l.nodes l.at (close_all l.book l.index l.r l.begun l.k l.root) s t → Done l.initial.nodes l.initial.at (close_all l.book l.index l.r l.begun l.initial.k l.initial.root) s t)
+    (l.k ≤ l.count) × (length l.nodes ≡ length l.initial.nodes) × ((s : Stored) (t : List ℕ) → Done l.nodes l.at (close_all l.book.bytes l.book.index l.r l.begun l.k l.root) s t → Done l.initial.nodes l.initial.at (close_all l.book.bytes l.book.index l.r l.begun l.initial.k l.initial.root) s t)
 
 abbrev pub decreases-loop-k : goal.decreases-loop-k
 decreases-loop-k l = l.k

@@ -59,4 +59,4 @@ returns-in-35 c =
 pub returns-in_default : goal.returns-in_default
 unfolding fold_run
 returns-in_default c =
-    rw (rest (foldings c.args.book.now c.args.index.now c.args.r c.args.m c.args.body) c.args.m (pure c.args.body) Unit c.in_default.in_default-own.rest).1 (search done_pure)
+    rw (rest (foldings c.args.book.now.bytes c.args.book.now.index c.args.r c.args.m c.args.body) c.args.m (pure c.args.body) Unit c.in_default.in_default-own.rest).1 (search done_pure)

@@ -27,4 +27,4 @@ returns-in-18 c = rw c.in-18.is c.variant.ensures
 pub returns-in_default : goal.returns-in_default
 unfolding wrap_run
 returns-in_default c =
-    rw (rest (wrappings c.args.book.now c.args.index.now c.args.r c.args.m c.args.inner) c.args.m (pure c.args.inner) Unit c.in_default.in_default-own.rest).1 (search done_pure)
+    rw (rest (wrappings c.args.book.now.bytes c.args.book.now.index c.args.r c.args.m c.args.inner) c.args.m (pure c.args.inner) Unit c.in_default.in_default-own.rest).1 (search done_pure)

@@ -109,4 +109,4 @@ returns-in-36 c = spanned c.requires CH c.in-36.is c.counted-in-36.ensures (most
 pub returns-in_default : goal.returns-in_default
 unfolding span_at
 returns-in_default c =
-    spanned_as (span 0 1 0) (rest (spans (field c.args.book.now c.args.index.now c.args.r)) c.args.m (span 0 1 0) Unit c.in_default.in_default-own.rest).1 c.spanning-in_default.ensures (omega arith) tt
+    spanned_as (span 0 1 0) (rest (spans (field c.args.book.now.bytes c.args.book.now.index c.args.r)) c.args.m (span 0 1 0) Unit c.in_default.in_default-own.rest).1 c.spanning-in_default.ensures (omega arith) tt

@@ -2,7 +2,7 @@
 -- Assumes nothing.
 use native.Mathlib.Omega.{arith}
 use mathlib.Core.Path.{sym, ◌∙◌}
-use Rattle.nodes.specs.Given.{text}
+use Rattle.book.specs.Text.{text}
 use Rattle.run.proofs.Seeds.{zeros_length, few_values, number_none, number_value, number_other, number_all}
 use Rattle.run.proofs.initial.number_values.Goals as goal
 use Rattle.run.proofs.initial.number_values.Goals.{then-is_of, else-is_of}
@@ -15,7 +15,7 @@ bounds-row-r c = omega (arith, c.loop-r.invariant.inside, c.loop-r.invariant.siz
 
 pub overflow_add-next : goal.overflow_add-next
 overflow_add-next c =
-    omega (arith, few_values (text c.args.book.now c.args.index.now c.args.records) c.loop-r.r, c.loop-r.invariant.inside, c.loop-r.invariant.counts, c.requires.valid.rows.few)
+    omega (arith, few_values c.args.book.now c.loop-r.r, c.loop-r.invariant.inside, c.loop-r.invariant.counts, c.requires.valid.rows.few)
 
 pub loop-r-preserved : goal.loop-r-preserved
 loop-r-preserved c =

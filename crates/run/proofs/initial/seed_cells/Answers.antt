@@ -3,7 +3,7 @@
 use borrow.Author.Rules.{rules}
 use native.Mathlib.Omega.{arith}
 use mathlib.Core.Path.{refl}
-use Rattle.nodes.specs.Given.{text}
+use Rattle.book.specs.Text.{text}
 use Rattle.run.proofs.Seeds.{start_unit, start_one, start_all}
 use Rattle.run.proofs.initial.seed_cells.Goals as goal
 

@@ -1,7 +1,7 @@
 -- `initial::seed_one` meets its contract: a value's cell is stored, and nothing of another record.
 -- Assumes nothing.
 use mathlib.Core.Path.{sym, ◌∙◌}
-use Rattle.nodes.specs.Given.{text}
+use Rattle.book.specs.Text.{text}
 use Rattle.run.proofs.Seeds.{one_value, one_other}
 use Rattle.run.proofs.initial.seed_one.Goals as goal
 
@@ -13,4 +13,4 @@ returns-then-is_of c = one_value (text _ _ _) _ c.requires.r_in_range (sym c.is_
 
 pub returns : goal.returns
 returns c =
-    one_other (text c.args.book.now c.args.index.now c.args.records) c.args.r c.requires.r_in_range (sym c.is_of.ensures ∙ c.if-is_of.false)
+    one_other c.args.book.now c.args.r c.requires.r_in_range (sym c.is_of.ensures ∙ c.if-is_of.false)

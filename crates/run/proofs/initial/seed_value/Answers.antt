@@ -3,7 +3,7 @@
 use mathlib.Core.Path.{sym, ◌∙◌}
 use Rattle.book.specs.Format.{VALUE, VL, VR, VP}
 use Rattle.book.proofs.Standing.{stands_begins, head_lies}
-use Rattle.nodes.specs.Given.{text}
+use Rattle.book.specs.Text.{text}
 use Rattle.nodes.proofs.Checks.{holds_stands}
 use Rattle.run.proofs.Seeds.{pair_mark, seed_unit, seed_left, seed_right, seed_pair, seed_kept}
 use Rattle.run.proofs.initial.seed_value.Goals as goal

@@ -8,7 +8,7 @@ use Rattle.shapes.proofs.Lists.{last_of}
 use Rattle.shapes.proofs.part.element_of.Given as goal
 
 abbrev pub invariant-loop-half : goal.invariant-loop-half
-invariant-loop-half l = Down l.book l.index last_of (element_of (top_of l.bound) (type_of l.book l.index l.t)) l.at l.half
+invariant-loop-half l = Down l.book.bytes l.book.index last_of (element_of (top_of l.bound) (type_of l.book.bytes l.book.index l.t)) l.at l.half
 
 abbrev pub decreases-loop-half : goal.decreases-loop-half
 decreases-loop-half l = l.half

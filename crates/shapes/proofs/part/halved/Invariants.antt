@@ -7,7 +7,7 @@ use Rattle.shapes.proofs.Powers.{Down}
 use Rattle.shapes.proofs.part.halved.Given as goal
 
 abbrev pub invariant-loop-count : goal.invariant-loop-count
-invariant-loop-count l = Down l.book l.index halved_of (halved_of (top_of l.n) (type_of l.book l.index l.t)) l.at l.count
+invariant-loop-count l = Down l.book.bytes l.book.index halved_of (halved_of (top_of l.n) (type_of l.book.bytes l.book.index l.t)) l.at l.count
 
 abbrev pub decreases-loop-count : goal.decreases-loop-count
 decreases-loop-count l = l.count

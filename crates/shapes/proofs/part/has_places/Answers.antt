@@ -19,7 +19,7 @@ place-requires c = record { stands = c.requires.stands; sort = tt; k_in_range = 
 pub returns-then-place : goal.returns-then-place
 unfolding has_places
 returns-then-place c =
-    sym (below_not (λ j. is_there (place_of sums c.args.n j (type_of c.args.book.now c.args.index.now c.args.t))) c.args.n c.loop-k.k c.loop-k-test.true (there_not c.place.ensures c.if-place.true))
+    sym (below_not (λ j. is_there (place_of sums c.args.n j (type_of c.args.book.now.bytes c.args.book.now.index c.args.t))) c.args.n c.loop-k.k c.loop-k-test.true (there_not c.place.ensures c.if-place.true))
 
 pub overflow_add-k : goal.overflow_add-k
 unfolding has_places
@@ -32,7 +32,7 @@ loop-k-smaller c = omega (arith, c.loop-k-test.true)
 pub loop-k-preserved : goal.loop-k-preserved
 unfolding has_places
 loop-k-preserved c =
-    (omega (arith, c.loop-k-test.true), below_next (λ j. is_there (place_of sums c.args.n j (type_of c.args.book.now c.args.index.now c.args.t))) c.loop-k.k c.loop-k.invariant.1 (there_is c.place.ensures c.if-place.false))
+    (omega (arith, c.loop-k-test.true), below_next (λ j. is_there (place_of sums c.args.n j (type_of c.args.book.now.bytes c.args.book.now.index c.args.t))) c.loop-k.k c.loop-k.invariant.1 (there_is c.place.ensures c.if-place.false))
 
 pub returns : goal.returns
 unfolding has_places

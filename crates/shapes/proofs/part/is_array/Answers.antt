@@ -15,7 +15,7 @@ place-requires c =
 
 pub returns-then-place-element : goal.returns-then-place-element
 returns-then-place-element c =
-    array_not (type_of c.args.book.now c.args.index.now c.args.element) (type_of c.args.book.now c.args.index.now c.args.t) c.loop-k.k c.loop-k-test.true (gives_other c.place.ensures c.requires.stands_element c.if-place-element.true)
+    array_not (type_of c.args.book.now.bytes c.args.book.now.index c.args.element) (type_of c.args.book.now.bytes c.args.book.now.index c.args.t) c.loop-k.k c.loop-k-test.true (gives_other c.place.ensures c.requires.stands_element c.if-place-element.true)
 
 pub overflow_add-k : goal.overflow_add-k
 overflow_add-k c = omega (arith, c.loop-k-test.true, c.requires.n_in_range_too)
@@ -28,4 +28,4 @@ loop-k-preserved c = agrees_next c.loop-k.invariant (gives_is c.place.ensures c.
 
 pub returns : goal.returns
 returns c =
-    array_all (type_of c.args.book.now c.args.index.now c.args.element) c.loop-k.invariant c.requires.n_in_range c.loop-k-test.false
+    array_all (type_of c.args.book.now.bytes c.args.book.now.index c.args.element) c.loop-k.invariant c.requires.n_in_range c.loop-k-test.false

@@ -6,7 +6,7 @@ use Rattle.shapes.proofs.Places.{Agrees}
 use Rattle.shapes.proofs.part.is_array.Given as goal
 
 abbrev pub invariant-loop-k : goal.invariant-loop-k
-invariant-loop-k l = Agrees l.n (λ j. type_of l.book l.index l.element) (type_of l.book l.index l.t) l.k
+invariant-loop-k l = Agrees l.n (λ j. type_of l.book.bytes l.book.index l.element) (type_of l.book.bytes l.book.index l.t) l.k
 
 abbrev pub decreases-loop-k : goal.decreases-loop-k
 decreases-loop-k l = l.n - l.k

@@ -17,7 +17,7 @@ mark_at-requires c = stands_begins c.requires.stands
 
 pub returns-then-mark_at-ne-TS : goal.returns-then-mark_at-ne-TS
 returns-then-mark_at-ne-TS c =
-    sym (same_not c.requires.stands c.mark_at.ensures (block_type (type_of c.args.book.now c.args.index.now c.args.element) (top_of c.args.n)) refl c.if-mark_at-ne-TS.true)
+    sym (same_not c.requires.stands c.mark_at.ensures (block_type (type_of c.args.book.now.bytes c.args.book.now.index c.args.element) (top_of c.args.n)) refl c.if-mark_at-ne-TS.true)
 
 pub field_at-requires : goal.field_at-requires
 field_at-requires c = side_lies c.requires.stands c.mark_at.ensures {m = TS} tt c.if-mark_at-ne-TS.false 0 (omega arith)
@@ -28,7 +28,7 @@ is_unit-requires c =
 
 pub returns-then-not-is_unit : goal.returns-then-not-is_unit
 returns-then-not-is_unit c =
-    sym (first_fails _ c.is_unit.ensures (same_sum c.requires.stands c.mark_at.ensures c.field_at.ensures refl one (power (type_of c.args.book.now c.args.index.now c.args.element) (top_of c.args.n)) c.if-mark_at-ne-TS.false) c.if-not-is_unit.true)
+    sym (first_fails _ c.is_unit.ensures (same_sum c.requires.stands c.mark_at.ensures c.field_at.ensures refl one (power (type_of c.args.book.now.bytes c.args.book.now.index c.args.element) (top_of c.args.n)) c.if-mark_at-ne-TS.false) c.if-not-is_unit.true)
 
 pub field_at-requires-2 : goal.field_at-requires-2
 field_at-requires-2 c = side_lies c.requires.stands c.mark_at.ensures {m = TS} tt c.if-mark_at-ne-TS.false 1 (omega arith)
@@ -39,4 +39,4 @@ halved-requires c =
 
 pub returns : goal.returns
 returns c =
-    power_at (top_of c.args.n) _ c.halved.ensures c.requires.stands_element ∙ sym (first_holds _ c.is_unit.ensures (same_sum c.requires.stands c.mark_at.ensures c.field_at.ensures c.field_at-2.ensures one (power (type_of c.args.book.now c.args.index.now c.args.element) (top_of c.args.n)) c.if-mark_at-ne-TS.false) c.if-not-is_unit.false)
+    power_at (top_of c.args.n) _ c.halved.ensures c.requires.stands_element ∙ sym (first_holds _ c.is_unit.ensures (same_sum c.requires.stands c.mark_at.ensures c.field_at.ensures c.field_at-2.ensures one (power (type_of c.args.book.now.bytes c.args.book.now.index c.args.element) (top_of c.args.n)) c.if-mark_at-ne-TS.false) c.if-not-is_unit.false)

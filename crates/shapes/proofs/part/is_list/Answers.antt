@@ -11,14 +11,14 @@ use Rattle.shapes.proofs.part.is_list.Goals as goal
 
 pub loop-half-init : goal.loop-half-init
 loop-half-init c =
-    list_start c.requires.stands c.args.bound c.requires.list_bound (type_of c.args.book.now c.args.index.now c.args.element)
+    list_start c.requires.stands c.args.bound c.requires.list_bound (type_of c.args.book.now.bytes c.args.book.now.index c.args.element)
 
 pub mark_at-requires : goal.mark_at-requires
 mark_at-requires c = stands_begins c.loop-half.invariant.stands
 
 pub returns-then-mark_at-ne-TP : goal.returns-then-mark_at-ne-TP
 returns-then-mark_at-ne-TP c =
-    list_not (type_of c.args.book.now c.args.index.now c.args.element) c.loop-half.invariant c.loop-half-test.true c.mark_at.ensures c.if-mark_at-ne-TP.true
+    list_not (type_of c.args.book.now.bytes c.args.book.now.index c.args.element) c.loop-half.invariant c.loop-half-test.true c.mark_at.ensures c.if-mark_at-ne-TP.true
 
 pub field_at-requires : goal.field_at-requires
 field_at-requires c = side_lies c.loop-half.invariant.stands c.mark_at.ensures {m = TP} tt c.if-mark_at-ne-TP.false 0 (omega arith)
@@ -29,7 +29,7 @@ is_block-requires c =
 
 pub returns-then-not-is_block : goal.returns-then-not-is_block
 returns-then-not-is_block c =
-    list_other (type_of c.args.book.now c.args.index.now c.args.element) c.loop-half.invariant c.loop-half-test.true c.mark_at.ensures c.if-mark_at-ne-TP.false c.field_at.ensures refl c.is_block.ensures c.if-not-is_block.true
+    list_other (type_of c.args.book.now.bytes c.args.book.now.index c.args.element) c.loop-half.invariant c.loop-half-test.true c.mark_at.ensures c.if-mark_at-ne-TP.false c.field_at.ensures refl c.is_block.ensures c.if-not-is_block.true
 
 pub field_at-at-requires : goal.field_at-at-requires
 field_at-at-requires c = side_lies c.loop-half.invariant.stands c.mark_at.ensures {m = TP} tt c.if-mark_at-ne-TP.false 1 (omega arith)
@@ -39,11 +39,11 @@ loop-half-smaller c = omega (arith, c.loop-half-test.true)
 
 pub loop-half-preserved : goal.loop-half-preserved
 loop-half-preserved c =
-    list_next (type_of c.args.book.now c.args.index.now c.args.element) c.loop-half.invariant c.loop-half-test.true c.mark_at.ensures c.if-mark_at-ne-TP.false c.field_at.ensures c.field_at-at.ensures c.is_block.ensures c.if-not-is_block.false
+    list_next (type_of c.args.book.now.bytes c.args.book.now.index c.args.element) c.loop-half.invariant c.loop-half-test.true c.mark_at.ensures c.if-mark_at-ne-TP.false c.field_at.ensures c.field_at-at.ensures c.is_block.ensures c.if-not-is_block.false
 
 pub is_block-requires-2 : goal.is_block-requires-2
 is_block-requires-2 c = record { stands = c.loop-half.invariant.stands; stands_element = c.requires.stands_element; among = tt }
 
 pub returns : goal.returns
 returns c =
-    list_end (type_of c.args.book.now c.args.index.now c.args.element) c.loop-half.invariant c.loop-half-test.false c.is_block-2.ensures
+    list_end (type_of c.args.book.now.bytes c.args.book.now.index c.args.element) c.loop-half.invariant c.loop-half-test.false c.is_block-2.ensures

@@ -9,7 +9,7 @@ use Rattle.shapes.proofs.part.is_list.Given as goal
 
 abbrev pub invariant-loop-half : goal.invariant-loop-half
 invariant-loop-half l =
-    Down l.book l.index (is_lists (type_of l.book l.index l.element)) (same (type_of l.book l.index l.t) (list_type (type_of l.book l.index l.element) l.bound)) l.at l.half
+    Down l.book.bytes l.book.index (is_lists (type_of l.book.bytes l.book.index l.element)) (same (type_of l.book.bytes l.book.index l.t) (list_type (type_of l.book.bytes l.book.index l.element) l.bound)) l.at l.half
 
 abbrev pub decreases-loop-half : goal.decreases-loop-half
 decreases-loop-half l = l.half

@@ -12,11 +12,11 @@ halved-bit-requires c = record { stands = c.requires.stands; among = c.requires.
 
 pub returns-then-bit : goal.returns-then-bit
 returns-then-bit c =
-    power_none (top_of c.args.bits) (type_of c.args.book.now c.args.index.now c.args.t) c.halved-bit.ensures two c.if-bit.true
+    power_none (top_of c.args.bits) (type_of c.args.book.now.bytes c.args.book.now.index c.args.t) c.halved-bit.ensures two c.if-bit.true
 
 pub is_bit-requires : goal.is_bit-requires
 is_bit-requires c = gives_stands c.halved-bit.ensures c.if-bit.false
 
 pub returns : goal.returns
 returns c =
-    power_some (top_of c.args.bits) (type_of c.args.book.now c.args.index.now c.args.t) c.halved-bit.ensures two c.if-bit.false c.is_bit.ensures
+    power_some (top_of c.args.bits) (type_of c.args.book.now.bytes c.args.book.now.index c.args.t) c.halved-bit.ensures two c.if-bit.false c.is_bit.ensures

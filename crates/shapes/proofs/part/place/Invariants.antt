@@ -8,7 +8,7 @@ use Rattle.shapes.proofs.part.place.Given as goal
 
 abbrev pub invariant-loop-count : goal.invariant-loop-count
 invariant-loop-count l =
-    On l.book l.index l.m (place_of (sort_of l.m) l.n l.k (type_of l.book l.index l.t)) l.at l.count l.left
+    On l.book.bytes l.book.index l.m (place_of (sort_of l.m) l.n l.k (type_of l.book.bytes l.book.index l.t)) l.at l.count l.left
 
 abbrev pub decreases-loop-count : goal.decreases-loop-count
 decreases-loop-count l = l.count

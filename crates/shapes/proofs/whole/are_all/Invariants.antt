@@ -11,7 +11,7 @@ use Rattle.shapes.proofs.whole.are_all.Given as goal
 
 abbrev pub invariant-loop-k : goal.invariant-loop-k
 invariant-loop-k l =
-    Left (λ j. same (part_at l.book l.index l.r l.span.stride l.span.from j) (type_of l.book l.index l.t)) l.n (all_are (type_of l.book l.index l.t) (types_at l.book l.index l.r l.span.stride l.span.from l.n)) l.k
+    Left (λ j. same (part_at l.book.bytes l.book.index l.r l.span.stride l.span.from j) (type_of l.book.bytes l.book.index l.t)) l.n (all_are (type_of l.book.bytes l.book.index l.t) (types_at l.book.bytes l.book.index l.r l.span.stride l.span.from l.n)) l.k
 
 abbrev pub decreases-loop-k : goal.decreases-loop-k
 decreases-loop-k l = l.n - l.k

@@ -11,7 +11,7 @@ use Rattle.shapes.proofs.whole.are_hashed.Given as goal
 
 abbrev pub invariant-loop-k : goal.invariant-loop-k
 invariant-loop-k l =
-    Left (λ j. same (type_is (expr_of l.book l.index (field l.book l.index l.r (4 + 2 * j)))) (word_type (field l.book l.index l.r (3 + 2 * j)))) l.n (words_at l.book l.index l.r 3 l.n) l.k
+    Left (λ j. same (type_is (expr_of l.book.bytes l.book.index (field l.book.bytes l.book.index l.r (4 + 2 * j)))) (word_type (field l.book.bytes l.book.index l.r (3 + 2 * j)))) l.n (words_at l.book.bytes l.book.index l.r 3 l.n) l.k
 
 abbrev pub decreases-loop-k : goal.decreases-loop-k
 decreases-loop-k l = l.n - l.k

@@ -11,7 +11,7 @@ use Rattle.shapes.proofs.whole.are_taken.Given as goal
 
 abbrev pub invariant-loop-k : goal.invariant-loop-k
 invariant-loop-k l =
-    Left (λ j. same (type_is (expr_of l.book l.index (field l.book l.index l.r (3 + j)))) (type_of l.book l.index (field l.book l.index l.f (3 + 2 * j)))) l.n (same_all (types_at l.book l.index l.r 1 3 l.n) (takes_at l.book l.index l.f 2 l.n)) l.k
+    Left (λ j. same (type_is (expr_of l.book.bytes l.book.index (field l.book.bytes l.book.index l.r (3 + j)))) (type_of l.book.bytes l.book.index (field l.book.bytes l.book.index l.f (3 + 2 * j)))) l.n (same_all (types_at l.book.bytes l.book.index l.r 1 3 l.n) (takes_at l.book.bytes l.book.index l.f 2 l.n)) l.k
 
 abbrev pub decreases-loop-k : goal.decreases-loop-k
 decreases-loop-k l = l.n - l.k

@@ -10,7 +10,7 @@ use Rattle.shapes.proofs.whole.are_words.Given as goal
 
 abbrev pub invariant-loop-k : goal.invariant-loop-k
 invariant-loop-k l =
-    Left (λ j. same (part_at l.book l.index l.r l.span.stride l.span.from j) (word_type l.bits)) l.n (all_are (word_type l.bits) (types_at l.book l.index l.r l.span.stride l.span.from l.n)) l.k
+    Left (λ j. same (part_at l.book.bytes l.book.index l.r l.span.stride l.span.from j) (word_type l.bits)) l.n (all_are (word_type l.bits) (types_at l.book.bytes l.book.index l.r l.span.stride l.span.from l.n)) l.k
 
 abbrev pub decreases-loop-k : goal.decreases-loop-k
 decreases-loop-k l = l.n - l.k

@@ -11,7 +11,7 @@ use Rattle.shapes.proofs.whole.is_row.Given as goal
 
 abbrev pub invariant-loop-k : goal.invariant-loop-k
 invariant-loop-k l =
-    Left (place_is l.book l.index l.r (type_of l.book l.index l.t) l.span.stride l.span.from l.n) l.n (same (type_of l.book l.index l.t) (row_type (types_at l.book l.index l.r l.span.stride l.span.from l.n))) l.k
+    Left (place_is l.book.bytes l.book.index l.r (type_of l.book.bytes l.book.index l.t) l.span.stride l.span.from l.n) l.n (same (type_of l.book.bytes l.book.index l.t) (row_type (types_at l.book.bytes l.book.index l.r l.span.stride l.span.from l.n))) l.k
 
 abbrev pub decreases-loop-k : goal.decreases-loop-k
 decreases-loop-k l = l.n - l.k
