@@ -1,5 +1,7 @@
 -- What RUN answers, and the published meaning of the term that its node table unfolds to.
 -- Assumes nothing.
+use Rattle.std.specs.declared.result.Result as results
+use Rattle.std.specs.declared.result.Result.TheVariants.{Ok, Err}
 use Prim.Native.Nat.{ℕ, ◌-◌}
 use mathlib.Core.List.{List, []}
 use mathlib.Core.Logic.{◌⊎◌, inl, inr}
@@ -15,8 +17,6 @@ use Rattle.book.specs.Valid.{Valid}
 use Rattle.book.specs.declared.fault.Fault.{Fault}
 use Rattle.book.specs.declared.fault.Fault.TheVariants.{Steep, Witness, Cells, Stuck, Jet}
 use Rattle.book.specs.declared.fault.Refusal.{Refusal}
-use Rattle.book.specs.declared.fault.ReadAnswer.{ReadAnswer}
-use Rattle.book.specs.declared.fault.ReadAnswer.TheVariants as reads
 use Rattle.book.proofs.Established.{answer_valid}
 use Rattle.book.specs.Text.{Text, text}
 use Rattle.nodes.specs.Given.{Given, given}
@@ -26,8 +26,8 @@ use Rattle.machine.specs.Run.{DEEP, run}
 use Rattle.run.specs.Whole.{seeds, ended, Result, refused, result_of, after_check, after_read, resulting, answer_of, cells_of, run_of, table_of}
 use Rattle.agreement.specs.Unfold.{value_at}
 use Rattle.agreement.specs.Agreement.{meaning_of, Says, says_steep, says_witness, says_cells, says_stuck, says_jet, Tells, tells_value, tells_failed, tells_refused, RefusedFor, Short}
-use Rattle.run.specs.declared.RunAnswer.{RunAnswer}
-use Rattle.run.specs.declared.RunAnswer.TheVariants as answers
+use Rattle.run.specs.Whole.{RunAnswer}
+use Rattle.run.specs.declared.Outcome.TheVariants as outcomes
 use Rattle.agreement.proofs.Reading.{value_back}
 use Rattle.agreement.proofs.Unfolding.{judged, unfolds_at}
 use Rattle.agreement.proofs.Seeding.{Seeded, seeded}
@@ -58,13 +58,13 @@ meant b ws ns c n = meaning_of (given (text b (index_of b) n) ws ns) c
 
 -- READ accepts the book, which has n records, and the check accepts the table of c nodes
 pub record Accepts (b ns : List ℕ) (c n : ℕ) : Type 0 where
-  pub read : read_of b ≡ reads.Records n
+  pub read : read_of b ≡ Ok n
   pub well : judge (text b (index_of b) n) ns c ≡ well_formed
 
 -- an answer beside its cells, and the meaning that came out: its value, read back; its failure; its being stuck; what is missing
 abbrev pub ComesOut : RunAnswer → List ℕ → Outcome → Type 0
-ComesOut a t (value x) = (v : ℕ) × (u : ℕ) × (a ≡ answers.Value v u) × (value_at t v ≡ x)
-ComesOut a t failed = a ≡ answers.Failed
+ComesOut a t (value x) = (v : ℕ) × (u : ℕ) × (a ≡ Ok (outcomes.Value v u)) × (value_at t v ≡ x)
+ComesOut a t failed = a ≡ Ok outcomes.Failed
 ComesOut a t stuck = RefusedFor Stuck a
 ComesOut a t missing = RefusedFor Witness a ⊎ RefusedFor Jet a
 
@@ -85,7 +85,7 @@ comes m (tells_value {v} {u} {t}) = inl (v, u, refl, refl)
 comes m tells_failed = inl refl
 comes m (tells_refused {w} {o} s) = go (said s)
   where
-    go : Said w.fault o → ComesOut (answers.Refused w) (cells_of m (refused w)) o ⊎ Short (answers.Refused w)
+    go : Said w.fault o → ComesOut (Err w) (cells_of m (refused w)) o ⊎ Short (Err w)
     go (inl (inl f)) = inr (inl (w, refl, f))
     go (inl (inr f)) = inr (inr (w, refl, f))
     go (inr (inl h)) = inl (rw h.1 (w, refl, h.0))
@@ -94,16 +94,16 @@ comes m (tells_refused {w} {o} s) = go (said s)
 
 -- an answer's form, by number
 abbrev pub form_of : RunAnswer → ℕ
-form_of (answers.Value v u) = 0
-form_of answers.Failed = 1
-form_of (answers.Refused w) = 2
+form_of (Ok (outcomes.Value v u)) = 0
+form_of (Ok outcomes.Failed) = 1
+form_of (Err w) = 2
 
-value_of : (m : ℕ) {r : Result} {o : Outcome} → Tells r o → (v u : ℕ) → answer_of r ≡ answers.Value v u → o ≡ value (value_at (cells_of m r) v)
+value_of : (m : ℕ) {r : Result} {o : Outcome} → Tells r o → (v u : ℕ) → answer_of r ≡ Ok (outcomes.Value v u) → o ≡ value (value_at (cells_of m r) v)
 value_of m (tells_value {v} {u} {t}) v' u' e = let z : v ≡ v' = cc in rw z
 value_of m tells_failed v u e = absurd (let z = ap form_of e in omega arith)
 value_of m (tells_refused s) v u e = absurd (let z = ap form_of e in omega arith)
 
-failed_of : {r : Result} {o : Outcome} → Tells r o → answer_of r ≡ answers.Failed → o ≡ failed
+failed_of : {r : Result} {o : Outcome} → Tells r o → answer_of r ≡ Ok outcomes.Failed → o ≡ failed
 failed_of tells_value e = absurd (let z = ap form_of e in omega arith)
 failed_of tells_failed e = refl
 failed_of (tells_refused s) e = absurd (let z = ap form_of e in omega arith)
@@ -127,29 +127,29 @@ module _ (b ws ns : List ℕ) (c m : ℕ) where
   told n a = rw (resulting, a.read, a.well) (means (given (text b (index_of b) n) ws ns) c m (answer_valid b n a.read) a.well)
 
   -- what is not refused was accepted
-  went : ((w : Refusal) → run_of b ws ns c m ≡ answers.Refused w → ⊥) → (n : ℕ) × Accepts b ns c n
+  went : ((w : Refusal) → run_of b ws ns c m ≡ Err w → ⊥) → (n : ℕ) × Accepts b ns c n
   unfolding run_of resulting
   went = go (read_of b) refl
     where
-      check : (n : ℕ) → read_of b ≡ reads.Records n → (j : Judged) → judge (text b (index_of b) n) ns c ≡ j
-          → ((w : Refusal) → answer_of (after_check j (given (text b (index_of b) n) ws ns) c m) ≡ answers.Refused w → ⊥) → (n : ℕ) × Accepts b ns c n
+      check : (n : ℕ) → read_of b ≡ Ok n → (j : Judged) → judge (text b (index_of b) n) ns c ≡ j
+          → ((w : Refusal) → answer_of (after_check j (given (text b (index_of b) n) ws ns) c m) ≡ Err w → ⊥) → (n : ℕ) × Accepts b ns c n
       check n r well_formed e h = (n, record { read = r; well = e })
       check n r (bad_at p) e h = absurd (h _ refl)
 
-      go : (a : ReadAnswer) → read_of b ≡ a
-          → ((w : Refusal) → answer_of (elim a [ reads.Records n ↦ after_read (given (text b (index_of b) n) ws ns) c m | reads.Refused w ↦ refused w ]) ≡ answers.Refused w → ⊥) → (n : ℕ) × Accepts b ns c n
-      go (reads.Records n) r h = check n r (judge (text b (index_of b) n) ns c) refl h
-      go (reads.Refused w) r h = absurd (h w refl)
+      go : (a : results.Result ℕ Refusal) → read_of b ≡ a
+          → ((w : Refusal) → answer_of (elim a [ Ok n ↦ after_read (given (text b (index_of b) n) ws ns) c m | Err w ↦ refused w ]) ≡ Err w → ⊥) → (n : ℕ) × Accepts b ns c n
+      go (Ok n) r h = check n r (judge (text b (index_of b) n) ns c) refl h
+      go (Err w) r h = absurd (h w refl)
 
   -- a value that RUN answers is the meaning's, read back from the cells
-  pub value_meant : (v u : ℕ) → run_of b ws ns c m ≡ answers.Value v u → (n : ℕ) × Accepts b ns c n × (meant b ws ns c n ≡ value (value_at (table_of b ws ns c m) v))
+  pub value_meant : (v u : ℕ) → run_of b ws ns c m ≡ Ok (outcomes.Value v u) → (n : ℕ) × Accepts b ns c n × (meant b ws ns c n ≡ value (value_at (table_of b ws ns c m) v))
   unfolding run_of table_of
   value_meant v u e =
       let a = went (λ w z. absurd (let y = ap form_of (sym e ∙ z) in omega arith)) in
       (a.0, a.1, value_of m (told a.0 a.1) v u e)
 
   -- a failure that RUN answers is the meaning's
-  pub failed_meant : run_of b ws ns c m ≡ answers.Failed → (n : ℕ) × Accepts b ns c n × (meant b ws ns c n ≡ failed)
+  pub failed_meant : run_of b ws ns c m ≡ Ok outcomes.Failed → (n : ℕ) × Accepts b ns c n × (meant b ws ns c n ≡ failed)
   unfolding run_of
   failed_meant e =
       let a = went (λ w z. absurd (let y = ap form_of (sym e ∙ z) in omega arith)) in
@@ -167,10 +167,10 @@ module _ (b ws ns : List ℕ) (c m : ℕ) where
     comes_out = comes m (told n a)
 
     -- so does a value, a failure, being stuck, what is missing
-    pub value_comes : (x : Value) → meant b ws ns c n ≡ value x → ((v : ℕ) × (u : ℕ) × (run_of b ws ns c m ≡ answers.Value v u) × (value_at (table_of b ws ns c m) v ≡ x)) ⊎ Short (run_of b ws ns c m)
+    pub value_comes : (x : Value) → meant b ws ns c n ≡ value x → ((v : ℕ) × (u : ℕ) × (run_of b ws ns c m ≡ Ok (outcomes.Value v u)) × (value_at (table_of b ws ns c m) v ≡ x)) ⊎ Short (run_of b ws ns c m)
     value_comes x e = rw e at comes_out
 
-    pub failed_comes : meant b ws ns c n ≡ failed → (run_of b ws ns c m ≡ answers.Failed) ⊎ Short (run_of b ws ns c m)
+    pub failed_comes : meant b ws ns c n ≡ failed → (run_of b ws ns c m ≡ Ok outcomes.Failed) ⊎ Short (run_of b ws ns c m)
     failed_comes e = rw e at comes_out
 
     pub stuck_comes : meant b ws ns c n ≡ stuck → RefusedFor Stuck (run_of b ws ns c m) ⊎ Short (run_of b ws ns c m)

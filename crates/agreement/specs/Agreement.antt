@@ -1,6 +1,6 @@
 -- What RUN's result says of the published meaning: of the term that the node table unfolds to, on the unit.
 -- Assumes nothing.
-use Rattle.std.specs.Prelude.{ℕ, ◌+◌, ◌*◌, ◌-◌, List, ◌⊎◌, ◌≡◌, length, ltb}
+use Rattle.std.specs.Prelude.{ℕ, ◌+◌, ◌*◌, ◌-◌, List, ◌⊎◌, ◌≡◌, length, ltb, Err}
 use Rattle.laws.specs.Table.{pick, both}
 use Rattle.simplicity.specs.Types.{same}
 use Rattle.simplicity.specs.Values as values
@@ -14,8 +14,7 @@ use Rattle.book.specs.declared.fault.Refusal.{Refusal}
 use Rattle.book.specs.Text.{Text}
 use Rattle.nodes.specs.Given.{Given, holds, entry_of}
 use Rattle.run.specs.Whole.{Result, valued, failing, refused}
-use Rattle.run.specs.declared.RunAnswer.{RunAnswer}
-use Rattle.run.specs.declared.RunAnswer.TheVariants as answers
+use Rattle.run.specs.Whole.{RunAnswer}
 use Rattle.agreement.specs.Unfold.{term_at, value_at}
 
 -- document 01, CHECK and the meanings: the witness of name x and type a is the value record that the name's entry says, if it is there and of that type
@@ -45,7 +44,7 @@ pub data Tells : Result → Outcome → Type 0 where
 
 -- document 01, Refusals 16 and 18: an answer that is a refusal with this fault; one for want of depth or cells
 abbrev pub RefusedFor : Fault → RunAnswer → Type 0
-RefusedFor f a = (w : Refusal) × (a ≡ answers.Refused w) × (w.fault ≡ f)
+RefusedFor f a = (w : Refusal) × (a ≡ Err w) × (w.fault ≡ f)
 
 abbrev pub Short : RunAnswer → Type 0
 Short a = RefusedFor Steep a ⊎ RefusedFor Cells a

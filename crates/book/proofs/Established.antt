@@ -1,5 +1,6 @@
 -- READ accepts only books of which the validity record holds.
 -- Assumes nothing.
+use Rattle.std.specs.declared.result.Result.TheVariants.{Ok}
 use Prim.Native.Nat.{ℕ, ◌+◌, ◌-◌, ◌≤◌, ◌<◌}
 use mathlib.Core.Bool.{true, false}
 use mathlib.Core.Path.{◌≡◌, refl, sym, subst₂, ◌∙◌}
@@ -12,7 +13,6 @@ use Rattle.book.specs.Read.{kind_at, total_at, fields, good, repeats, State, on,
 use Rattle.book.specs.Ready.{Ready, Rows}
 use Rattle.book.specs.Index.{single, depth}
 use Rattle.book.specs.Valid.{Sound, Used, Valid}
-use Rattle.book.specs.declared.fault.ReadAnswer.TheVariants as answers
 use Rattle.book.proofs.Judging.{up_to, fields_fit}
 use Rattle.book.proofs.Moves.{takes}
 use Rattle.book.proofs.Course.{Kept, zeros}
@@ -97,10 +97,10 @@ read_valid b i n e =
     }
 
 -- so the code's answer and index are those of a valid book
-pub answer_valid : (b : List ℕ) (n : ℕ) → read_of b ≡ answers.Records n → Valid b (index_of b) n
+pub answer_valid : (b : List ℕ) (n : ℕ) → read_of b ≡ Ok n → Valid b (index_of b) n
 unfolding read_of index_of
 answer_valid b n = go (reading b) refl
   where
-    go : (o : Outcome) → reading b ≡ o → answer_of o ≡ answers.Records n → Valid b (places_of o) n
+    go : (o : Outcome) → reading b ≡ o → answer_of o ≡ Ok n → Valid b (places_of o) n
     go (done m i) e q = let z : m ≡ n = cc in rw z at (read_valid b i m e)
     go (refused w) e q = absurd (let z : ◌≡◌ {A = ℕ} 0 1 = cc in omega arith)

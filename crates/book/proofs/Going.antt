@@ -1,5 +1,7 @@
 -- READ's loop: what is left of the book answers for it all.
 -- Assumes nothing.
+use Rattle.std.specs.declared.result.Result.{Result}
+use Rattle.std.specs.declared.result.Result.TheVariants.{Ok, Err}
 use Prim.Native.Nat.{ℕ, suc, ◌+◌, ◌-◌, ◌≤◌, ◌<◌}
 use mathlib.Core.Path.{◌≡◌, sym, ap, subst, ◌∙◌}
 use mathlib.Core.Bool.{true, false}
@@ -14,8 +16,6 @@ use Rattle.book.specs.Ready.{Ready, Chained, Carried, moved_of, outcome_of}
 use Rattle.book.specs.declared.fault.Fault.{Fault}
 use Rattle.book.specs.declared.fault.Fault.TheVariants.{Records, Size}
 use Rattle.book.specs.declared.fault.Refusal.{Refusal}
-use Rattle.book.specs.declared.fault.ReadAnswer.{ReadAnswer}
-use Rattle.book.specs.declared.fault.ReadAnswer.TheVariants as answers
 use Rattle.book.specs.declared.read.Next.{Next}
 use Rattle.book.specs.declared.read.Next.TheVariants as nexts
 use Rattle.book.proofs.Course.{over, onward, halts, full}
@@ -77,24 +77,24 @@ sized_is n e =
     (ltb→lt 0 n (both_left (ltb 0 n) (ltb n 65536) t), ltb→lt n 65536 (both_right (ltb 0 n) (ltb n 65536) t))
 
 -- what READ answers, and its index
-abbrev Answers : List ℕ → ReadAnswer → List ℕ → Type 0
+abbrev Answers : List ℕ → Result ℕ Refusal → List ℕ → Type 0
 Answers b v i = (v ≡ read_of b) × (i ≡ index_of b)
 
 outcome_answers : (b : List ℕ) (o : Outcome) → reading b ≡ o → Answers b (answer_of o) (places_of o)
 unfolding read_of index_of
 outcome_answers b o e = (ap answer_of (sym e), ap places_of (sym e))
 
-pub unsized_answers : (b : List ℕ) → sized (length b) ≡ false → Answers b (answers.Refused (refusal Size 0)) (replicate 4096 0)
+pub unsized_answers : (b : List ℕ) → sized (length b) ≡ false → Answers b (Err (refusal Size 0)) (replicate 4096 0)
 unfolding reading
 unsized_answers b e = outcome_answers b (refused (refusal Size 0)) (rw (reading, e))
 
-module _ (b : List ℕ) (e : sized (length b) ≡ true) (v : ReadAnswer) (i : List ℕ) (is : outcome_of v i ≡ records 4096 b start) where
+module _ (b : List ℕ) (e : sized (length b) ≡ true) (v : Result ℕ Refusal) (i : List ℕ) (is : outcome_of v i ≡ records 4096 b start) where
   whole : (o : Outcome) → outcome_of v i ≡ o → Answers b (answer_of o) (places_of o)
   unfolding reading
   whole o q = outcome_answers b o (rw (reading, e) (sym is ∙ q))
 
-  pub records_answer : (n : ℕ) → v ≡ answers.Records n → Answers b (answers.Records n) i
-  records_answer n q = whole (done n i) (ap (λ (u : ReadAnswer). outcome_of u i) q)
+  pub records_answer : (n : ℕ) → v ≡ Ok n → Answers b (Ok n) i
+  records_answer n q = whole (done n i) (ap (λ (u : Result ℕ Refusal). outcome_of u i) q)
 
-  pub refusal_answers : (w : Refusal) → v ≡ answers.Refused w → Answers b (answers.Refused w) (replicate 4096 0)
-  refusal_answers w q = whole (refused w) (ap (λ (u : ReadAnswer). outcome_of u i) q)
+  pub refusal_answers : (w : Refusal) → v ≡ Err w → Answers b (Err w) (replicate 4096 0)
+  refusal_answers w q = whole (refused w) (ap (λ (u : Result ℕ Refusal). outcome_of u i) q)

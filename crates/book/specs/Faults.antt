@@ -1,12 +1,10 @@
 -- The refusals by number, and READ's answer.
 -- Assumes nothing.
-use Rattle.std.specs.Prelude.{ℕ}
+use Rattle.std.specs.Prelude.{ℕ, Result, Ok, Err}
 use Rattle.book.specs.declared.fault.Fault.{Fault}
 use Rattle.book.specs.declared.fault.Fault.TheVariants.{Size, Records, Cut, Mark, Number, Reference, Twice, Depth, Loose, Undefined, Room, Bindings, Ty, Name, Nodes, Steep, Witness, Cells, Stuck, Jet}
 use Rattle.book.specs.declared.fault.Refusal.{Refusal}
 use Rattle.book.specs.declared.fault.Numbers.{Numbers}
-use Rattle.book.specs.declared.fault.ReadAnswer.{ReadAnswer}
-use Rattle.book.specs.declared.fault.ReadAnswer.TheVariants as answers
 
 -- document 01, Refusals by number: each fault's number
 abbrev pub fault_number : Fault → ℕ
@@ -40,6 +38,6 @@ abbrev pub numbers : ℕ → ℕ → ℕ → Numbers
 numbers n p c = record { number = n; place = p; count = c }
 
 -- document 01, Refusals by number: a success is number 0 at place 0 with its count; a refusal has count 0
-abbrev pub numbers_of : ReadAnswer → Numbers
-numbers_of (answers.Records n) = numbers 0 0 n
-numbers_of (answers.Refused w) = numbers (fault_number w.fault) w.place 0
+abbrev pub numbers_of : Result ℕ Refusal → Numbers
+numbers_of (Ok n) = numbers 0 0 n
+numbers_of (Err w) = numbers (fault_number w.fault) w.place 0

@@ -1,6 +1,6 @@
 -- READ as a function of a book's bytes, in document 01's order of judgement.
 -- Assumes nothing.
-use Rattle.std.specs.Prelude.{ℕ, zero, suc, ◌+◌, ◌*◌, ◌-◌, Bool, true, false, List, [], ◌∷◌, length, get_or, set, replicate, eqb, leb, ltb}
+use Rattle.std.specs.Prelude.{ℕ, zero, suc, ◌+◌, ◌*◌, ◌-◌, Bool, true, false, List, [], ◌∷◌, length, get_or, set, replicate, eqb, leb, ltb, Result, Ok, Err}
 use Rattle.laws.specs.Table.{pick, both, below, among, some}
 use Rattle.book.specs.Format.{word_at, mark_of, kind_of, layout_of, role_of, total_of, in_range, TYPE, EXPRESSION, STATEMENT, FUNCTION, END}
 use Rattle.book.specs.Faults.{refusal}
@@ -8,8 +8,6 @@ use Rattle.book.specs.declared.format.Layout.{Layout}
 use Rattle.book.specs.declared.fault.Fault.{Fault}
 use Rattle.book.specs.declared.fault.Fault.TheVariants.{Size, Records, Cut, Mark, Number, Reference, Twice, Depth, Loose}
 use Rattle.book.specs.declared.fault.Refusal.{Refusal}
-use Rattle.book.specs.declared.fault.ReadAnswer.{ReadAnswer}
-use Rattle.book.specs.declared.fault.ReadAnswer.TheVariants as answers
 
 -- the record that begins at p: its mark, how often its group stands, its number of fields, where it ends, and its field k with its role
 unfoldable pub mark_at : List ℕ → ℕ → ℕ
@@ -155,15 +153,15 @@ unfoldable pub reading : List ℕ → Outcome
 reading b = elim (sized (length b)) [ true ↦ records 4096 b start | false ↦ refused (refusal Size 0) ]
 
 -- READ's answer, and the index: where each record begins, zeros beyond; after a refusal zeros throughout
-abbrev pub answer_of : Outcome → ReadAnswer
-answer_of (done n i) = answers.Records n
-answer_of (refused w) = answers.Refused w
+abbrev pub answer_of : Outcome → Result ℕ Refusal
+answer_of (done n i) = Ok n
+answer_of (refused w) = Err w
 
 abbrev pub places_of : Outcome → List ℕ
 places_of (done n i) = i
 places_of (refused w) = replicate 4096 0
 
-unfoldable pub read_of : List ℕ → ReadAnswer
+unfoldable pub read_of : List ℕ → Result ℕ Refusal
 read_of b = answer_of (reading b)
 
 unfoldable pub index_of : List ℕ → List ℕ

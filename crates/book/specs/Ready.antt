@@ -1,12 +1,11 @@
 -- What READ's parts ask of the rows that they are lent, and how their answers say what READ does.
 -- Assumes nothing.
-use Rattle.std.specs.Prelude.{ℕ, ◌+◌, ◌*◌, ◌-◌, ◌%◌, ◌≤◌, ◌<◌, ◌≡◌, List, length, get_or, set, eqb, ltb}
+use Rattle.book.specs.declared.fault.Refusal.{Refusal}
+use Rattle.std.specs.Prelude.{ℕ, ◌+◌, ◌*◌, ◌-◌, ◌%◌, ◌≤◌, ◌<◌, ◌≡◌, List, length, get_or, set, eqb, ltb, Result, Ok, Err}
 use Rattle.laws.specs.Table.{pick}
 use Rattle.book.specs.Format.{word_at, TYPE, TU}
 use Rattle.book.specs.Read.{mark_at, kind_at, count_at, end_at, Verdict, good, bad, state, Moved, on, stop, Outcome, done, refused}
 use Rattle.book.specs.declared.fault.Fault.TheVariants.{Cut, Mark}
-use Rattle.book.specs.declared.fault.ReadAnswer.{ReadAnswer}
-use Rattle.book.specs.declared.fault.ReadAnswer.TheVariants as answers
 use Rattle.book.specs.declared.read.Frame.{Frame}
 use Rattle.book.specs.declared.read.Frame.TheVariants as frames
 use Rattle.book.specs.declared.read.Judged.{Judged}
@@ -83,6 +82,6 @@ moved_of (nexts.At p) r i nm ds = on (state p (r + 1) i nm ds)
 moved_of (nexts.Bad f) r i nm ds = stop f
 
 -- an answer beside the index that it left
-abbrev pub outcome_of : ReadAnswer → List ℕ → Outcome
-outcome_of (answers.Records n) i = done n i
-outcome_of (answers.Refused w) i = refused w
+abbrev pub outcome_of : Result ℕ Refusal → List ℕ → Outcome
+outcome_of (Ok n) i = done n i
+outcome_of (Err w) i = refused w

@@ -1,4 +1,4 @@
-// Refusals by number, and READ's answer, which nests one.
+// Refusals by number. A call's answer is a Result: its error nests the fault beside its place.
 ghost use Rattle.std.specs.Prelude.{◌≡◌};
 ghost use Rattle.book.specs.Faults.{fault_number, numbers_of};
 
@@ -33,13 +33,6 @@ pub enum Fault {
 pub struct Refusal {
     pub fault: Fault,
     pub place: u16,
-}
-
-// READ's answer: how many records there are, or a refusal.
-#[derive(Clone, Copy)]
-pub enum ReadAnswer {
-    Records(u16),
-    Refused(Refusal),
 }
 
 // A fault's number, from 1 to 20.
@@ -79,22 +72,19 @@ pub struct Numbers {
 }
 
 // A success is number 0 at place 0 with its count; a refusal has count 0.
-pub fn numbers_of(answer: ReadAnswer) -> Numbers
+pub fn numbers_of(answer: Result<u16, Refusal>) -> Numbers
     ensures { result ≡ numbers_of answer }
 {
     match answer {
-        ReadAnswer::Records(n) => Numbers {
+        Ok(count) => Numbers {
             number: 0,
             place: 0,
-            count: n,
+            count,
         },
-        ReadAnswer::Refused(why) => {
-            let fault = why.fault;
-            Numbers {
-                number: fault_number(fault),
-                place: why.place,
-                count: 0,
-            }
-        }
+        Err(Refusal { fault, place }) => Numbers {
+            number: fault_number(fault),
+            place,
+            count: 0,
+        },
     }
 }

@@ -4,7 +4,7 @@ ghost use Rattle.book.specs.Format.{TYPE, kind_of};
 ghost use Rattle.book.specs.Read.{mark_at, kind_at, count_in, count_at, total_at, end_at, role_at, names, deeper, once, refer, judge, fields, alike, repeats, state, settle, step, is_unnamed, loose, records, sized, read_of, index_of, good};
 ghost use Rattle.book.specs.Ready.{Framed, Opens, Rows, Ready, chain_of, Chained, joined, Carried, frame_from, frame_of, verdict_of, moved_of, outcome_of};
 
-use crate::fault::{Fault, ReadAnswer, Refusal};
+use crate::fault::{Fault, Refusal};
 use crate::format::{
     END, EXPRESSION, FUNCTION, Layout, STATEMENT, TU, TYPE, in_range, kind_of, layout_of, mark_of,
     role_of, total_of,
@@ -35,7 +35,7 @@ pub enum Next {
 // READ's answer, and where each record begins.
 #[derive(Clone, Copy)]
 pub struct Indexed {
-    pub answer: ReadAnswer,
+    pub answer: Result<u16, Refusal>,
     pub index: [u16; 4096],
 }
 
@@ -376,7 +376,7 @@ fn is_unnamed(book: &[u8], at: usize, named: u8) -> bool
 }
 
 // LOOSE: the first such before the last, else the last, if it is no expression.
-fn judge_loose(book: &[u8], index: &[u16], named: &[u8], count: usize) -> ReadAnswer
+fn judge_loose(book: &[u8], index: &[u16], named: &[u8], count: usize) -> Result<u16, Refusal>
     requires rows { Rows book.now index.now count }
     requires named_length { length named.now ≡ 4096 }
     requires count_in_range { 0 < count }
@@ -386,7 +386,7 @@ fn judge_loose(book: &[u8], index: &[u16], named: &[u8], count: usize) -> ReadAn
     while j + 1 < count {
         let at = index[j] as usize;
         if is_unnamed(book, at, named[j]) {
-            return ReadAnswer::Refused(Refusal {
+            return Err(Refusal {
                 fault: Fault::Loose,
                 place: j as u16,
             });
@@ -395,12 +395,12 @@ fn judge_loose(book: &[u8], index: &[u16], named: &[u8], count: usize) -> ReadAn
     }
     let last = index[j] as usize;
     if kind_at(book, last) != EXPRESSION {
-        return ReadAnswer::Refused(Refusal {
+        return Err(Refusal {
             fault: Fault::Loose,
             place: j as u16,
         });
     }
-    ReadAnswer::Records(count as u16)
+    Ok(count as u16)
 }
 
 // Record by record, up to 4,096 of them, and then LOOSE.
@@ -410,7 +410,7 @@ fn read_records(
     named: &mut [u8],
     depths: &mut [u8],
     chains: &mut [u16],
-) -> ReadAnswer
+) -> Result<u16, Refusal>
     requires ready { Ready book.now index.old named.old depths.old 0 }
     requires book_fits { 0 < length book.now }
     requires chained { Chained book.now index.old chains.old 0 }
@@ -420,7 +420,7 @@ fn read_records(
     let mut r: usize = 0;
     while at < book.len() {
         if r == 4096 {
-            return ReadAnswer::Refused(Refusal {
+            return Err(Refusal {
                 fault: Fault::Records,
                 place: 4096,
             });
@@ -430,7 +430,7 @@ fn read_records(
                 at = end;
             }
             Next::Bad(f) => {
-                return ReadAnswer::Refused(Refusal {
+                return Err(Refusal {
                     fault: f,
                     place: r as u16,
                 });
@@ -458,7 +458,7 @@ pub fn index_book(book: &[u8]) -> Indexed
     let none = [0u16; 4096];
     if !is_sized(book.len()) {
         return Indexed {
-            answer: ReadAnswer::Refused(Refusal {
+            answer: Err(Refusal {
                 fault: Fault::Size,
                 place: 0,
             }),
@@ -470,19 +470,19 @@ pub fn index_book(book: &[u8]) -> Indexed
     let mut depths = [0u8; 4096];
     let mut chains = [0u16; 5120];
     match read_records(book, &mut index, &mut named, &mut depths, &mut chains) {
-        ReadAnswer::Records(n) => Indexed {
-            answer: ReadAnswer::Records(n),
+        Ok(n) => Indexed {
+            answer: Ok(n),
             index: index,
         },
-        ReadAnswer::Refused(w) => Indexed {
-            answer: ReadAnswer::Refused(w),
+        Err(w) => Indexed {
+            answer: Err(w),
             index: none,
         },
     }
 }
 
 // READ.
-pub fn read(book: &[u8]) -> ReadAnswer
+pub fn read(book: &[u8]) -> Result<u16, Refusal>
     ensures { result ≡ read_of book.now }
 {
     let indexed = index_book(book);

@@ -7,21 +7,20 @@ use book::fault::fault_number;
 use console::read_full;
 use std::io;
 use std::io::Read;
-use typing::CheckAnswer;
 use vectors::{low_first, print_totals, print_wrong, size_of};
 
 // Room for a book that is too long by far.
 const ROOM: usize = 131072;
 
-fn is_right(head: [u8; 8], answer: CheckAnswer) -> bool {
+fn is_right(head: [u8; 8], answer: Result<u16, Refusal>) -> bool {
     match answer {
-        CheckAnswer::Records(count) => {
+        Ok(count) => {
             if head[0] != 0 {
                 return false;
             }
             count == low_first(head[3], head[4])
         }
-        CheckAnswer::Refused(why) => {
+        Err(why) => {
             let fault = why.fault;
             if head[0] != fault_number(fault) {
                 return false;

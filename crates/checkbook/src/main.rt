@@ -9,18 +9,17 @@ ghost use Rattle.checkbook.specs.Shown.{shown};
 use console::{print_count, print_refusal, read_full};
 use std::io;
 use std::io::{Read, Write};
-use typing::CheckAnswer;
 
 // One byte more than a book may have: a longer input is refused as such.
 const ROOM: usize = 65536;
 
 // How many records there are, or the refusal.
-fn show<W: Write>(out: &mut W, answer: CheckAnswer) -> io::Result<()>
+fn show<W: Write>(out: &mut W, answer: Result<u16, Refusal>) -> io::Result<()>
     ensures { OnOk result (Appends (W.contents out.old) (W.contents out.new) (shown answer)) }
 {
     match answer {
-        CheckAnswer::Records(count) => print_count(out, b"checked", count as u64),
-        CheckAnswer::Refused(why) => print_refusal(out, why),
+        Ok(count) => print_count(out, b"checked", count as u64),
+        Err(why) => print_refusal(out, why),
     }
 }
 

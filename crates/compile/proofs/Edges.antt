@@ -1,5 +1,6 @@
 -- The table of edges holds: both sides of each line compute to the same, the listing's by its trace.
 -- Assumes nothing.
+use Rattle.std.specs.declared.result.Result.TheVariants.{Ok, Err}
 use Prim.Native.Nat.{ℕ, suc, ◌-◌, ◌≤◌, ◌<◌}
 use mathlib.Core.Bool.{Bool}
 use mathlib.Core.List.{[], ◌∷◌, ◌++◌}
@@ -25,7 +26,6 @@ use Rattle.recipes.specs.Calls.{paired}
 use Rattle.compile.specs.Lower.{lower, statements}
 use Rattle.compile.specs.Whole.{trace_of, lowering, lower_of, table_of}
 use Rattle.compile.specs.Edges.{listing_nodes, Edges}
-use Rattle.compile.specs.declared.LowerAnswer.TheVariants as answers
 
 -- a node, and the record that stores it
 abbrev node : ℕ → ℕ → ℕ → ℕ → Node
@@ -44,11 +44,11 @@ module _ (y : Bool) where
   unfolding lowering
   listing_lowers n = rw (listing_read.1, lowering, listing_trace)
 
-  listing_fits : (n : ℕ) → 30 ≤ n → (lower_of listing y n ≡ answers.Nodes 6) × (table_of listing y n ≡ listing_nodes ++ replicate (n - 30) 0)
+  listing_fits : (n : ℕ) → 30 ≤ n → (lower_of listing y n ≡ Ok 6) × (table_of listing y n ≡ listing_nodes ++ replicate (n - 30) 0)
   unfolding lower_of table_of room cut after image encode
   listing_fits n h = let e : room n ≡ suc (suc (suc (suc (suc (suc (room n - 6)))))) = omega arith in rw (listing_lowers n, e) (refl, refl)
 
-  listing_short : (n : ℕ) → 25 ≤ n → n < 30 → (lower_of listing y n ≡ answers.Refused (refusal Room 6)) × (table_of listing y n ≡ replicate n 0)
+  listing_short : (n : ℕ) → 25 ≤ n → n < 30 → (lower_of listing y n ≡ Err (refusal Room 6)) × (table_of listing y n ≡ replicate n 0)
   unfolding lower_of table_of room cut after image
   listing_short n h g = let e : room n ≡ 5 = omega arith in rw (listing_lowers n, e) (refl, refl)
 

@@ -1,5 +1,7 @@
 -- From the root's lowering on a clear table to LOWER's answer and table.
 -- Assumes nothing.
+use Rattle.std.specs.declared.result.Result.{Result}
+use Rattle.std.specs.declared.result.Result.TheVariants.{Ok, Err}
 use Prim.Native.Nat.{ℕ, ◌-◌, ◌<◌}
 use mathlib.Core.Bool.{Bool}
 use mathlib.Core.List.{List, [], ◌∷◌}
@@ -10,8 +12,6 @@ use Rattle.book.specs.Format.{EXPRESSION}
 use Rattle.book.specs.Read.{read_of, index_of}
 use Rattle.book.specs.Stands.{Stands}
 use Rattle.book.specs.Tree.{ignore, expr_of}
-use Rattle.book.specs.declared.fault.ReadAnswer.{ReadAnswer}
-use Rattle.book.specs.declared.fault.ReadAnswer.TheVariants as reads
 use Rattle.book.specs.declared.fault.Refusal.{Refusal}
 use Rattle.book.proofs.Established.{answer_valid}
 use Rattle.named.specs.Cut.{refused, cut, room, image}
@@ -24,8 +24,6 @@ use Rattle.scope_bindings.specs.declared.ScopeBindings.{ScopeBindings}
 use Rattle.scope_bindings.proofs.Scopes.{bound_ignored, scope_root, root_stands}
 use Rattle.compile.specs.Lower.{lower}
 use Rattle.compile.specs.Whole.{trace_of, lowering, lower_of, table_of, Lowered}
-use Rattle.compile.specs.declared.LowerAnswer.{LowerAnswer}
-use Rattle.compile.specs.declared.LowerAnswer.TheVariants as answers
 
 -- the root's scope
 pub root_scope_lem : {s : ScopeBindings} (b i : List ℕ) → Roots IGNORED s → scope_of b i s ≡ ignore ∷ []
@@ -39,17 +37,17 @@ module _ (y : Bool) (b i : List ℕ) (r : ℕ) {s : ScopeBindings} {t t' : List 
   from_clear = subst (λ u. Fate u 0 (lower y (expr_of b i r) (ignore ∷ [])) q t') z (rw (root_scope_lem b i h) at d.fate)
 
   -- a result: the nodes and then zeros
-  pub root_made : {a u : ℕ} → q ≡ stores.Node a u → Lowered (cut (room (length t)) (trace_of y b i r)) (length t) (answers.Nodes u) t'
+  pub root_made : {a u : ℕ} → q ≡ stores.Node a u → Lowered (cut (room (length t)) (trace_of y b i r)) (length t) (Ok u) t'
   unfolding Fate trace_of
   root_made e = let g = clear_gives (length t) (lower y (expr_of b i r) (ignore ∷ [])) (rw e at from_clear) in record { answer = rw (g.0, g.1) refl; table = g.2 }
 
   -- a refusal: zeros throughout
-  pub root_refused : {w : Refusal} {t₂ : List ℕ} → q ≡ stores.Refused w → t₂ ≡ zeros (length t') → Lowered (cut (room (length t)) (trace_of y b i r)) (length t) (answers.Refused w) t₂
+  pub root_refused : {w : Refusal} {t₂ : List ℕ} → q ≡ stores.Refused w → t₂ ≡ zeros (length t') → Lowered (cut (room (length t)) (trace_of y b i r)) (length t) (Err w) t₂
   unfolding Fate trace_of
   root_refused e o = let g = clear_stops (length t) (lower y (expr_of b i r) (ignore ∷ [])) (rw e at from_clear) in record { answer = rw g.0 refl; table = o ∙ rw d.kept g.1 }
 
 -- the last record of a book that READ accepts
-module _ (b : List ℕ) (n : ℕ) (e : read_of b ≡ reads.Records n) where
+module _ (b : List ℕ) (n : ℕ) (e : read_of b ≡ Ok n) where
   pub some_records : 0 < n
   some_records = (answer_valid b n e).some
 
@@ -69,19 +67,19 @@ clear_again {t} n e = let z : n ≡ length t = sym (clear_length e) in e ∙ ap 
 
 -- and so LOWER's answer and its table
 module _ (b : List ℕ) (y : Bool) (l : ℕ) where
-  by_read : (n : ℕ) → read_of b ≡ reads.Records n → lowering b y l ≡ cut (room l) (trace_of y b (index_of b) (n - 1))
+  by_read : (n : ℕ) → read_of b ≡ Ok n → lowering b y l ≡ cut (room l) (trace_of y b (index_of b) (n - 1))
   unfolding lowering
   by_read n e = rw (e, lowering)
 
-  by_refusal : (w : Refusal) → read_of b ≡ reads.Refused w → lowering b y l ≡ refused w
+  by_refusal : (w : Refusal) → read_of b ≡ Err w → lowering b y l ≡ refused w
   unfolding lowering
   by_refusal w e = rw (e, lowering)
 
-module _ (b : List ℕ) (y : Bool) (l : ℕ) {x : ReadAnswer} {t : List ℕ} (p : x ≡ read_of b) where
-  pub whole_read : {a : LowerAnswer} {i : List ℕ} {k : ℕ} (n : ℕ) → i ≡ index_of b → x ≡ reads.Records n → k ≡ l → Lowered (cut (room k) (trace_of y b i (n - 1))) k a t → (a ≡ lower_of b y l) × (t ≡ table_of b y l)
+module _ (b : List ℕ) (y : Bool) (l : ℕ) {x : Result ℕ Refusal} {t : List ℕ} (p : x ≡ read_of b) where
+  pub whole_read : {a : Result ℕ Refusal} {i : List ℕ} {k : ℕ} (n : ℕ) → i ≡ index_of b → x ≡ Ok n → k ≡ l → Lowered (cut (room k) (trace_of y b i (n - 1))) k a t → (a ≡ lower_of b y l) × (t ≡ table_of b y l)
   unfolding lower_of table_of
   whole_read n q f h d = rw (by_read b y l n (sym p ∙ f), ← q, ← h) (d.answer, d.table)
 
-  pub whole_refused : {w : Refusal} → x ≡ reads.Refused w → t ≡ zeros l → (answers.Refused w ≡ lower_of b y l) × (t ≡ table_of b y l)
+  pub whole_refused : {w : Refusal} → x ≡ Err w → t ≡ zeros l → (Err w ≡ lower_of b y l) × (t ≡ table_of b y l)
   unfolding lower_of table_of image
   whole_refused {w} f z = rw (by_refusal b y l w (sym p ∙ f)) (refl, z)

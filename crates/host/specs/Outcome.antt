@@ -1,11 +1,10 @@
 -- LOWER's and RUN's answers as the host has them: numbers.
 -- Assumes nothing.
-use Rattle.std.specs.Prelude.{ℕ, Bool, not, eqb}
+use Rattle.book.specs.declared.fault.Refusal.{Refusal}
+use Rattle.std.specs.Prelude.{ℕ, Bool, not, eqb, Result, Ok, Err}
 use Rattle.book.specs.Faults.{fault_number}
-use Rattle.compile.specs.declared.LowerAnswer.{LowerAnswer}
-use Rattle.compile.specs.declared.LowerAnswer.TheVariants as answers
-use Rattle.run.specs.declared.RunAnswer.{RunAnswer}
-use Rattle.run.specs.declared.RunAnswer.TheVariants as runs
+use Rattle.run.specs.Whole.{RunAnswer}
+use Rattle.run.specs.declared.Outcome.TheVariants as outcomes
 use Rattle.host.specs.declared.LowerOutcome.{LowerOutcome}
 use Rattle.host.specs.declared.RunOutcome.{RunOutcome}
 
@@ -18,15 +17,15 @@ abbrev pub outcome : ℕ → ℕ → ℕ → LowerOutcome
 outcome n p c = record { number = n; place = p; count = c }
 
 -- document 01, Refusals by number: a success is number 0 at place 0 with its count; a refusal has count 0
-abbrev pub outcome_of : LowerAnswer → LowerOutcome
-outcome_of (answers.Nodes n) = outcome 0 0 n
-outcome_of (answers.Refused w) = outcome (fault_number w.fault) w.place 0
+abbrev pub outcome_of : Result ℕ Refusal → LowerOutcome
+outcome_of (Ok n) = outcome 0 0 n
+outcome_of (Err w) = outcome (fault_number w.fault) w.place 0
 
 abbrev pub ran : ℕ → ℕ → ℕ → ℕ → RunOutcome
 ran n p c v = record { number = n; place = p; count = c; cell = v }
 
 -- document 01, Refusals by number: a value is number 0 at place 0 with the cells used and its cell; FAILED has count 0, and so has a refusal
 abbrev pub ran_of : RunAnswer → RunOutcome
-ran_of (runs.Value v u) = ran 0 0 u v
-ran_of runs.Failed = ran 0 0 0 0
-ran_of (runs.Refused w) = ran (fault_number w.fault) w.place 0 0
+ran_of (Ok (outcomes.Value v u)) = ran 0 0 u v
+ran_of (Ok outcomes.Failed) = ran 0 0 0 0
+ran_of (Err w) = ran (fault_number w.fault) w.place 0 0

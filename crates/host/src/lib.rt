@@ -7,8 +7,8 @@ ghost use Rattle.run.specs.Whole.{run_of, table_of as cells_of};
 ghost use Rattle.host.specs.Outcome.{asked, outcome_of, ran, ran_of};
 
 use book::fault::fault_number;
-use compile::{LowerAnswer, lower};
-use run::{RunAnswer, run};
+use compile::lower;
+use run::{Outcome, run};
 
 // LOWER's answer in numbers: a success is number 0 at place 0 with its count of nodes; a refusal has count 0.
 #[repr(C)]
@@ -27,16 +27,16 @@ pub extern "C" fn simplicityhl_lower(book: &[u8], symbols: u8, nodes: &mut [u8])
     outcome_of(lower(book, symbols != 0, nodes))
 }
 
-fn outcome_of(answer: LowerAnswer) -> LowerOutcome
+fn outcome_of(answer: Result<u16, Refusal>) -> LowerOutcome
     ensures { result ≡ outcome_of answer }
 {
     match answer {
-        LowerAnswer::Nodes(n) => LowerOutcome {
+        Ok(n) => LowerOutcome {
             number: 0,
             place: 0,
             count: n as u32,
         },
-        LowerAnswer::Refused(why) => {
+        Err(why) => {
             let fault = why.fault;
             LowerOutcome {
                 number: fault_number(fault) as u32,
@@ -84,18 +84,18 @@ fn no_value(number: u32, place: u32) -> RunOutcome
     }
 }
 
-fn ran_of(answer: RunAnswer) -> RunOutcome
+fn ran_of(answer: Result<Outcome, Refusal>) -> RunOutcome
     ensures { result ≡ ran_of answer }
 {
     match answer {
-        RunAnswer::Value { cell: v, count: n } => RunOutcome {
+        Ok(Outcome::Value { cell: v, count: n }) => RunOutcome {
             number: 0,
             place: 0,
             count: n as u32,
             cell: v as u32,
         },
-        RunAnswer::Failed => no_value(0, 0),
-        RunAnswer::Refused(why) => {
+        Ok(Outcome::Failed) => no_value(0, 0),
+        Err(why) => {
             let fault = why.fault;
             no_value(fault_number(fault) as u32, why.place as u32)
         }

@@ -5,7 +5,7 @@
 #![tactic(auto)]
 
 use book::fault::fault_number;
-use compile::{LowerAnswer, lower};
+use compile::lower;
 use console::read_full;
 use std::io;
 use std::io::Read;
@@ -15,15 +15,15 @@ use vectors::{begins_with, fill, is_zero_from, low_first, print_totals, print_wr
 // have to be cleared anew for each vector.
 const MOST: usize = 8192;
 
-fn is_answer(head: [u8; 15], answer: LowerAnswer) -> bool {
+fn is_answer(head: [u8; 15], answer: Result<u16, Refusal>) -> bool {
     match answer {
-        LowerAnswer::Nodes(count) => {
+        Ok(count) => {
             if head[1] != 0 {
                 return false;
             }
             count == low_first(head[4], head[5])
         }
-        LowerAnswer::Refused(why) => {
+        Err(why) => {
             let fault = why.fault;
             if head[1] != fault_number(fault) {
                 return false;

@@ -3,7 +3,7 @@
 
 ghost use Rattle.std.specs.Prelude.{◌+◌, ◌*◌, ◌≤◌, length};
 
-use compile::{LowerAnswer, lower};
+use compile::lower;
 use console::{print_count, print_refusal, read_full};
 use std::io;
 use std::io::Write;
@@ -94,7 +94,7 @@ fn main(rt: HostRuntime) -> io::Result<()> {
     let mut nodes = [0u8; ROOM];
     let mut out = rt.stdout();
     match lower(&buffer[..n], false, &mut nodes) {
-        LowerAnswer::Nodes(count) => print_nodes(&mut out, &nodes, count as usize),
-        LowerAnswer::Refused(why) => print_refusal(&mut out, why),
+        Ok(count) => print_nodes(&mut out, &nodes, count as usize),
+        Err(why) => print_refusal(&mut out, why),
     }
 }

@@ -1,5 +1,6 @@
 -- Demand 3: the theorem, and what follows for those who quote it.
 -- Assumes nothing.
+use Rattle.std.specs.declared.result.Result.TheVariants.{Ok, Err}
 use Prim.Native.Nat.{ℕ, ◌-◌, ◌<◌}
 use mathlib.Core.Bool.{Bool, false}
 use mathlib.Core.List.{List, [], ◌∷◌}
@@ -20,17 +21,15 @@ use Rattle.book.specs.Tree.{Expr, ignore, expr_of}
 use Rattle.book.specs.declared.fault.Refusal.{Refusal}
 use Rattle.compile.specs.Whole.{lower_of}
 use Rattle.compile.specs.Whole as lowered
-use Rattle.compile.specs.declared.LowerAnswer.TheVariants as lowers
 use Rattle.typing.specs.Whole.{check_of}
 use Rattle.typing.specs.Typed.{TypedBook}
-use Rattle.typing.specs.declared.CheckAnswer.TheVariants as checks
 use Rattle.typing.proofs.Exactly.{passes_exactly}
 use Rattle.book.specs.Text.{Text, text}
 use Rattle.nodes.specs.Given.{Given, given}
 use Rattle.run.specs.Whole.{run_of}
 use Rattle.run.specs.Whole as ran
-use Rattle.run.specs.declared.RunAnswer.{RunAnswer}
-use Rattle.run.specs.declared.RunAnswer.TheVariants as answers
+use Rattle.run.specs.Whole.{RunAnswer}
+use Rattle.run.specs.declared.Outcome.TheVariants as outcomes
 use Rattle.agreement.specs.Unfold.{term_at, value_at}
 use Rattle.agreement.specs.Agreement.{witnesses_of, meaning_of, Short}
 use Rattle.agreement.proofs.Meaning.{Accepts, meant, ComesOut, form_of, comes_out}
@@ -44,7 +43,7 @@ use Rattle.meaning.proofs.Stored.{stored}
 use Rattle.meaning.proofs.Tables as tables
 use Rattle.meaning.proofs.Agreement.{agree}
 
-module _ (b ws : List ℕ) (n : ℕ) (checked : check_of b ≡ checks.Records n) (supplied : Supplied b n ws) where
+module _ (b ws : List ℕ) (n : ℕ) (checked : check_of b ≡ Ok n) (supplied : Supplied b n ws) where
   abbrev book : Text
   book = text b (index_of b) n
 
@@ -63,7 +62,7 @@ module _ (b ws : List ℕ) (n : ℕ) (checked : check_of b ≡ checks.Records n)
   pub no_hash_reached : Hashless b n → source_of b n ws ≡ missing → ⊥
   no_hash_reached h e = rw e at (agreed ⊥ h false).fine
 
-  module _ (y : Bool) (m c : ℕ) (accepted : lower_of b y m ≡ lowers.Nodes c) where
+  module _ (y : Bool) (m c : ℕ) (accepted : lower_of b y m ≡ Ok c) where
     abbrev table : List ℕ
     table = lowered.table_of b y m
 
@@ -104,7 +103,7 @@ short_form : (a : RunAnswer) → Short a → form_of a ≡ 2
 short_form a (inl h) = ap form_of h.1
 short_form a (inr h) = ap form_of h.1
 
-short_number : (a : RunAnswer) (w : Refusal) → a ≡ answers.Refused w → Short a → (fault_number w.fault ≡ 16) ⊎ (fault_number w.fault ≡ 18)
+short_number : (a : RunAnswer) (w : Refusal) → a ≡ Err w → Short a → (fault_number w.fault ≡ 16) ⊎ (fault_number w.fault ≡ 18)
 short_number a w e (inl h) = let z : h.0 ≡ w = cc in inl (rw (← z) (ap fault_number h.2))
 short_number a w e (inr h) = let z : h.0 ≡ w = cc in inr (rw (← z) (ap fault_number h.2))
 

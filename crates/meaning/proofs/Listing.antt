@@ -1,5 +1,6 @@
 -- The listing of document 01 meets every premise of the theorem, means right of unit, and runs so.
 -- Assumes nothing.
+use Rattle.std.specs.declared.result.Result.TheVariants.{Ok}
 use Prim.Native.Nat.{ℕ, ◌≤◌, ◌<◌}
 use mathlib.Core.Bool.{Bool, not}
 use mathlib.Core.List.{List}
@@ -24,7 +25,6 @@ use Rattle.binders.specs.Binders.{fits, twice, seek, type_for}
 use Rattle.binders.specs.Binders as binders
 use Rattle.typing.specs.Check.{binds, known, check, statements}
 use Rattle.typing.specs.Whole.{in_order, value_at, function_at, checking, answer_of, check_of}
-use Rattle.typing.specs.declared.CheckAnswer.TheVariants as checks
 use Rattle.run.specs.Whole.{run_of}
 use Rattle.run.specs.Whole as ran
 use Rattle.meaning.specs.Source.{lookup, bound, mean}
@@ -33,7 +33,7 @@ use Rattle.meaning.specs.Demand.{source_of, root_type, AsMeant}
 use Rattle.meaning.proofs.Demand.{no_hash_reached, what_you_see_is_what_runs}
 
 -- CHECK passes its nine records
-listing_checked : check_of listing ≡ checks.Records 9
+listing_checked : check_of listing ≡ Ok 9
 unfolding read_of index_of sized reading records step loose is_unnamed settle repeats alike fields judge refer once deeper names mark_at kind_at count_at count_in total_at end_at role_at field_at word_at mark_of kind_of layout_of role_of total_of in_range within power_in tree trees seen build group as_type as_value declared as_pattern as_expr as_stmt check_of answer_of checking in_order value_at function_at value_agrees same side_of is_at leads check statements binds known fits twice seek type_for find type_is end_type whole binders.names
 listing_checked = refl
 

@@ -1,5 +1,6 @@
 -- What the panel's owner may quote: the arm that runs, the refusals that never come, and that symbols change nothing.
 -- Assumes nothing.
+use Rattle.std.specs.declared.result.Result.TheVariants.{Ok, Err}
 use Prim.Native.Nat.{ℕ, zero, suc, ◌<◌}
 use mathlib.Core.Bool.{Bool, true, false}
 use mathlib.Core.List.{List}
@@ -18,13 +19,11 @@ use Rattle.book.specs.Tree.{Pat, Expr, match_enum, Arms, no_arms, more_arms}
 use Rattle.book.specs.declared.fault.Refusal.{Refusal}
 use Rattle.compile.specs.Whole.{lower_of}
 use Rattle.compile.specs.Whole as lowered
-use Rattle.compile.specs.declared.LowerAnswer.TheVariants as lowers
 use Rattle.typing.specs.Check.{arm_count}
 use Rattle.typing.specs.Whole.{check_of}
-use Rattle.typing.specs.declared.CheckAnswer.TheVariants as checks
 use Rattle.run.specs.Whole.{run_of}
 use Rattle.run.specs.Whole as ran
-use Rattle.run.specs.declared.RunAnswer.TheVariants as answers
+use Rattle.run.specs.declared.Outcome.TheVariants as outcomes
 use Rattle.agreement.specs.Unfold.{value_at}
 use Rattle.meaning.specs.Source.{Held, behind, choose, mean, arms}
 use Rattle.meaning.specs.Premises.{Supplied}
@@ -56,9 +55,9 @@ module _ (ws : Witnesses) (r : ℕ) (t : Ty) (e : Expr) (cs : Arms) (k : ℕ) (i
       rw h (rw z at (arm_runs ws (compile_arms y cs sc) k (rw z inside) a input))
 
 -- a book that CHECK passes, with its witnesses and no hash that is reached
-module _ (b ws : List ℕ) (n : ℕ) (checked : check_of b ≡ checks.Records n) (supplied : Supplied b n ws) (reached : source_of b n ws ≡ missing → ⊥) where
+module _ (b ws : List ℕ) (n : ℕ) (checked : check_of b ≡ Ok n) (supplied : Supplied b n ws) (reached : source_of b n ws ≡ missing → ⊥) where
   -- what LOWER makes of it, with symbols or without, is never refused for its nodes, for a witness, as stuck, or for a jet
-  pub never_refused : (y : Bool) (m c k : ℕ) → lower_of b y m ≡ lowers.Nodes c → (w : Refusal) → run_of b ws (lowered.table_of b y m) c k ≡ answers.Refused w
+  pub never_refused : (y : Bool) (m c k : ℕ) → lower_of b y m ≡ Ok c → (w : Refusal) → run_of b ws (lowered.table_of b y m) c k ≡ Err w
       → (fault_number w.fault ≡ 15 → ⊥) × (fault_number w.fault ≡ 17 → ⊥) × (fault_number w.fault ≡ 19 → ⊥) × (fault_number w.fault ≡ 20 → ⊥)
   never_refused y m c k accepted w e = go ((what_you_see_is_what_runs b ws n m c k y checked accepted supplied reached).refused_is w e)
     where
@@ -67,15 +66,15 @@ module _ (b ws : List ℕ) (n : ℕ) (checked : check_of b ≡ checks.Records n)
       go (inr h) = (λ q. omega arith, λ q. omega arith, λ q. omega arith, λ q. omega arith)
 
   -- LOWER twice, each with symbols or without, in whatever room, and RUN with whatever cells: the values that come out are equal, and neither fails where the other gives a value
-  module _ (y y' : Bool) (m c k m' c' k' : ℕ) (one : lower_of b y m ≡ lowers.Nodes c) (other : lower_of b y' m' ≡ lowers.Nodes c') where
-    pub symbols_change_no_value : (v u v' u' : ℕ) → run_of b ws (lowered.table_of b y m) c k ≡ answers.Value v u → run_of b ws (lowered.table_of b y' m') c' k' ≡ answers.Value v' u'
+  module _ (y y' : Bool) (m c k m' c' k' : ℕ) (one : lower_of b y m ≡ Ok c) (other : lower_of b y' m' ≡ Ok c') where
+    pub symbols_change_no_value : (v u v' u' : ℕ) → run_of b ws (lowered.table_of b y m) c k ≡ Ok (outcomes.Value v u) → run_of b ws (lowered.table_of b y' m') c' k' ≡ Ok (outcomes.Value v' u')
         → value_at (ran.table_of b ws (lowered.table_of b y m) c k) v ≡ value_at (ran.table_of b ws (lowered.table_of b y' m') c' k') v'
     symbols_change_no_value v u v' u' e f =
         let p = (what_you_see_is_what_runs b ws n m c k y checked one supplied reached).value_is v u e in
         let q = (what_you_see_is_what_runs b ws n m' c' k' y' checked other supplied reached).value_is v' u' f in
         cc (sym p ∙ q)
 
-    pub symbols_change_no_failure : run_of b ws (lowered.table_of b y m) c k ≡ answers.Failed → (v u : ℕ) → run_of b ws (lowered.table_of b y' m') c' k' ≡ answers.Value v u → ⊥
+    pub symbols_change_no_failure : run_of b ws (lowered.table_of b y m) c k ≡ Ok outcomes.Failed → (v u : ℕ) → run_of b ws (lowered.table_of b y' m') c' k' ≡ Ok (outcomes.Value v u) → ⊥
     symbols_change_no_failure e v u f =
         let p = (what_you_see_is_what_runs b ws n m c k y checked one supplied reached).failed_is e in
         let q = (what_you_see_is_what_runs b ws n m' c' k' y' checked other supplied reached).value_is v u f in

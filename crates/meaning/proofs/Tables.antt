@@ -1,5 +1,6 @@
 -- LOWER's table holds its trace: the check accepts the table, and its last node unfolds to what the trace comes to.
 -- Assumes nothing.
+use Rattle.std.specs.declared.result.Result.TheVariants.{Ok}
 use Prim.Native.Nat.{ℕ, zero, suc, ◌+◌, ◌-◌, ◌*◌, ◌/◌, ◌<◌, ◌≤◌}
 use mathlib.Core.Bool.{Bool, true, false}
 use mathlib.Core.List.{List, [], ◌∷◌, ◌++◌, append_assoc}
@@ -14,7 +15,6 @@ use Rattle.laws.specs.Table.{pick}
 use Rattle.simplicity.specs.Terms.{Term}
 use Rattle.book.specs.Read.{read_of, index_of}
 use Rattle.book.specs.Tree.{ignore, expr_of}
-use Rattle.book.specs.declared.fault.ReadAnswer.TheVariants as reads
 use Rattle.named.specs.Trace.{Node, Trace, done, stopped, store}
 use Rattle.named.specs.Cut.{Out, made, refused, cut, bytes, encode, room, image}
 use Rattle.named.proofs.Runs.{after_made}
@@ -25,7 +25,6 @@ use Rattle.nodes.specs.Given.{Given, given}
 use Rattle.nodes.specs.Nodes.{formed, first_bad, well_formed, judge}
 use Rattle.compile.specs.Lower.{lower}
 use Rattle.compile.specs.Whole.{trace_of, lowering, answer_of, lower_of, table_of}
-use Rattle.compile.specs.declared.LowerAnswer.TheVariants as answers
 use Rattle.agreement.specs.Unfold.{term_at}
 use Rattle.agreement.proofs.Meaning.{Accepts}
 use Rattle.meaning.proofs.Traces.{Stored, Comes, comes_done, comes_store, At, Ran}
@@ -82,7 +81,7 @@ well_judged b ns c some few long each =
 abbrev pub given_of : List ℕ → ℕ → Bool → ℕ → List ℕ → Given
 given_of b n y m ws = given (text b (index_of b) n) ws (table_of b y m)
 
-lowering_is : (b : List ℕ) (n : ℕ) → read_of b ≡ reads.Records n → (y : Bool) (m : ℕ) → lowering b y m ≡ cut (room m) (lower y (expr_of b (index_of b) (n - 1)) (ignore ∷ []) 0)
+lowering_is : (b : List ℕ) (n : ℕ) → read_of b ≡ Ok n → (y : Bool) (m : ℕ) → lowering b y m ≡ cut (room m) (lower y (expr_of b (index_of b) (n - 1)) (ignore ∷ []) 0)
 unfolding lowering trace_of
 lowering_is b n read y m = rw (lowering, read)
 
@@ -90,7 +89,7 @@ table_is : (b : List ℕ) (y : Bool) (m a : ℕ) (xs : List Node) → lowering b
 unfolding table_of image
 table_is b y m a xs e = rw e
 
-module _ (b : List ℕ) (n : ℕ) (read : read_of b ≡ reads.Records n) (y : Bool) (m c : ℕ) (answer : lower_of b y m ≡ answers.Nodes c) (ws : List ℕ) (t : Term)
+module _ (b : List ℕ) (n : ℕ) (read : read_of b ≡ Ok n) (y : Bool) (m c : ℕ) (answer : lower_of b y m ≡ Ok c) (ws : List ℕ) (t : Term)
     (ran : Ran (given_of b n y m ws) (lower y (expr_of b (index_of b) (n - 1)) (ignore ∷ [])) 0 (At (given_of b n y m ws) t)) where
   -- the last of the nodes that LOWER made
   held : (a : ℕ) (xs : List Node) → lowering b y m ≡ made a xs → Accepts b (table_of b y m) (length xs) n × (term_at (given_of b n y m ws) (length xs - 1) ≡ t)
@@ -110,6 +109,6 @@ module _ (b : List ℕ) (n : ℕ) (read : read_of b ≡ reads.Records n) (y : Bo
   unfolding lower_of
   lowered = go (lowering b y m) refl answer
     where
-      go : (o : Out ℕ) → lowering b y m ≡ o → answer_of o ≡ answers.Nodes c → Accepts b (table_of b y m) c n × (term_at (given_of b n y m ws) (c - 1) ≡ t)
+      go : (o : Out ℕ) → lowering b y m ≡ o → answer_of o ≡ Ok c → Accepts b (table_of b y m) c n × (term_at (given_of b n y m ws) (c - 1) ≡ t)
       go (made a xs) e q = let z : c ≡ length xs = cc in rw z (held a xs e)
       go (refused w) e q = let z : ◌≡◌ {A = ℕ} 0 1 = cc in absurd (omega arith)

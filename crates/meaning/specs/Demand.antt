@@ -1,6 +1,6 @@
 -- Demand 3, over bytes: what the source means is what runs.
 -- Assumes nothing.
-use Rattle.std.specs.Prelude.{ℕ, ◌-◌, Bool, List, [], ◌⊎◌, ◌≡◌}
+use Rattle.std.specs.Prelude.{ℕ, ◌-◌, Bool, List, [], ◌⊎◌, ◌≡◌, Ok, Err}
 use Rattle.simplicity.specs.Types.{Ty}
 use Rattle.simplicity.specs.Values.{Value}
 use Rattle.simplicity.specs.Outcomes.{Outcome, value, failed, missing}
@@ -11,15 +11,13 @@ use Rattle.book.specs.Tree.{expr_of}
 use Rattle.book.specs.declared.fault.Refusal.{Refusal}
 use Rattle.compile.specs.Whole.{lower_of}
 use Rattle.compile.specs.Whole as lowered
-use Rattle.compile.specs.declared.LowerAnswer.TheVariants as lowers
 use Rattle.shapes.specs.Shapes.{type_is}
 use Rattle.typing.specs.Whole.{check_of}
-use Rattle.typing.specs.declared.CheckAnswer.TheVariants as checks
 use Rattle.book.specs.Text.{text}
 use Rattle.run.specs.Whole.{run_of}
 use Rattle.run.specs.Whole as ran
-use Rattle.run.specs.declared.RunAnswer.{RunAnswer}
-use Rattle.run.specs.declared.RunAnswer.TheVariants as answers
+use Rattle.run.specs.Whole.{RunAnswer}
+use Rattle.run.specs.declared.Outcome.TheVariants as outcomes
 use Rattle.agreement.specs.Unfold.{value_at}
 use Rattle.agreement.specs.Agreement.{witnesses_of, Short}
 use Rattle.meaning.specs.Source.{mean}
@@ -37,16 +35,16 @@ pub record AsMeant (a : RunAnswer) (t : List ℕ) (o : Outcome) (d : Ty) : Type 
   -- what is meant is a value of the declared type, or a failure
   pub good : Good o d
   -- a cell is answered only where its reading is the value that is meant, and FAILED only where a failure is
-  pub value_is : (v u : ℕ) → a ≡ answers.Value v u → o ≡ value (value_at t v)
-  pub failed_is : a ≡ answers.Failed → o ≡ failed
+  pub value_is : (v u : ℕ) → a ≡ Ok (outcomes.Value v u) → o ≡ value (value_at t v)
+  pub failed_is : a ≡ Ok outcomes.Failed → o ≡ failed
   -- the value that is meant is answered, and so is a failure, unless depth or cells are wanting
-  pub value_comes : (x : Value) → o ≡ value x → ((v : ℕ) × (u : ℕ) × (a ≡ answers.Value v u) × (value_at t v ≡ x)) ⊎ Short a
-  pub failed_comes : o ≡ failed → (a ≡ answers.Failed) ⊎ Short a
+  pub value_comes : (x : Value) → o ≡ value x → ((v : ℕ) × (u : ℕ) × (a ≡ Ok (outcomes.Value v u)) × (value_at t v ≡ x)) ⊎ Short a
+  pub failed_comes : o ≡ failed → (a ≡ Ok outcomes.Failed) ⊎ Short a
   -- no refusal but for want of depth or cells
-  pub refused_is : (w : Refusal) → a ≡ answers.Refused w → (fault_number w.fault ≡ 16) ⊎ (fault_number w.fault ≡ 18)
+  pub refused_is : (w : Refusal) → a ≡ Err w → (fault_number w.fault ≡ 16) ⊎ (fault_number w.fault ≡ 18)
 
 -- a book b that CHECK passes; LOWER, with symbols or without (y), accepts it in a table of m bytes; each witness is supplied by ws; no hash is reached; k bytes for cells: RUN on LOWER's table is as meant
 abbrev pub Demand3 : Type 0
 Demand3 = (b ws : List ℕ) (n m c k : ℕ) (y : Bool)
-    → check_of b ≡ checks.Records n → lower_of b y m ≡ lowers.Nodes c → Supplied b n ws → (source_of b n ws ≡ missing → ⊥)
+    → check_of b ≡ Ok n → lower_of b y m ≡ Ok c → Supplied b n ws → (source_of b n ws ≡ missing → ⊥)
     → AsMeant (run_of b ws (lowered.table_of b y m) c k) (ran.table_of b ws (lowered.table_of b y m) c k) (source_of b n ws) (root_type b n)

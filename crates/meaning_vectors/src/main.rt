@@ -8,12 +8,12 @@
 ghost use Rattle.std.specs.Prelude.{◌≡◌, ◌+◌, ◌≤◌, ◌<◌, length};
 
 use cells::table::{PAIR, UNIT, kind_at, left_at, right_at};
-use compile::{LowerAnswer, lower};
+use compile::lower;
 use console::read_full;
-use run::{RunAnswer, run};
+use run::{Outcome, run};
 use std::io;
 use std::io::Read;
-use typing::{CheckAnswer, check};
+use typing::check;
 use vectors::{low_first, print_totals, print_wrong};
 
 // One more than the greatest length of a part.
@@ -79,9 +79,9 @@ fn is_value(cells: &[u8], cell: u16, due: &[u8]) -> bool {
 fn runs_as_due(book: &[u8], witnesses: &[u8], due: &[u8], nodes: &[u8], count: u16) -> bool {
     let mut cells = [0u8; TABLE];
     match run(book, witnesses, nodes, count as u32, &mut cells) {
-        RunAnswer::Value { cell, .. } => is_value(&cells, cell, due),
-        RunAnswer::Failed => due.len() == 0,
-        RunAnswer::Refused(_) => false,
+        Ok(Outcome::Value { cell, .. }) => is_value(&cells, cell, due),
+        Ok(Outcome::Failed) => due.len() == 0,
+        Err(_) => false,
     }
 }
 
@@ -89,15 +89,15 @@ fn runs_as_due(book: &[u8], witnesses: &[u8], due: &[u8], nodes: &[u8], count: u
 fn ends_as_due(book: &[u8], witnesses: &[u8], due: &[u8], symbols: bool) -> bool {
     let mut nodes = [0u8; TABLE];
     match lower(book, symbols, &mut nodes) {
-        LowerAnswer::Nodes(count) => runs_as_due(book, witnesses, due, &nodes, count),
-        LowerAnswer::Refused(_) => false,
+        Ok(count) => runs_as_due(book, witnesses, due, &nodes, count),
+        Err(_) => false,
     }
 }
 
 fn passes_check(book: &[u8]) -> bool {
     match check(book) {
-        CheckAnswer::Records(_) => true,
-        CheckAnswer::Refused(_) => false,
+        Ok(_) => true,
+        Err(_) => false,
     }
 }
 

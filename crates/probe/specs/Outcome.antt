@@ -1,12 +1,8 @@
 -- READ's and CHECK's answers in numbers.
 -- Assumes nothing.
-use Rattle.std.specs.Prelude.{ℕ}
+use Rattle.std.specs.Prelude.{ℕ, Result, Ok, Err}
 use Rattle.book.specs.Faults.{fault_number}
 use Rattle.book.specs.declared.fault.Refusal.{Refusal}
-use Rattle.book.specs.declared.fault.ReadAnswer.{ReadAnswer}
-use Rattle.book.specs.declared.fault.ReadAnswer.TheVariants as reads
-use Rattle.typing.specs.declared.CheckAnswer.{CheckAnswer}
-use Rattle.typing.specs.declared.CheckAnswer.TheVariants as checks
 use Rattle.probe.specs.declared.Outcome.{Outcome}
 
 -- document 01, Refusals by number: a success is number 0 at place 0 with its count; a refusal has count 0
@@ -16,10 +12,10 @@ counted n = record { number = 0; place = 0; count = n }
 abbrev pub refused : Refusal → Outcome
 refused w = record { number = fault_number w.fault; place = w.place; count = 0 }
 
-abbrev pub read_outcome : ReadAnswer → Outcome
-read_outcome (reads.Records n) = counted n
-read_outcome (reads.Refused w) = refused w
+abbrev pub read_outcome : Result ℕ Refusal → Outcome
+read_outcome (Ok n) = counted n
+read_outcome (Err w) = refused w
 
-abbrev pub check_outcome : CheckAnswer → Outcome
-check_outcome (checks.Records n) = counted n
-check_outcome (checks.Refused w) = refused w
+abbrev pub check_outcome : Result ℕ Refusal → Outcome
+check_outcome (Ok n) = counted n
+check_outcome (Err w) = refused w

@@ -6,9 +6,9 @@ ghost use Rattle.book.specs.Read.{read_of};
 ghost use Rattle.typing.specs.Whole.{check_of};
 ghost use Rattle.probe.specs.Outcome.{counted, refused, read_outcome, check_outcome};
 
-use book::fault::{ReadAnswer, Refusal, fault_number};
+use book::fault::{Refusal, fault_number};
 use book::read::read;
-use typing::{CheckAnswer, check};
+use typing::check;
 
 // An answer in numbers: a success is number 0 at place 0 with its count of records; a refusal has count 0.
 #[repr(C)]
@@ -45,8 +45,8 @@ pub extern "C" fn simplicityhl_read(book: &[u8]) -> Outcome
     ensures { result ≡ read_outcome (read_of book.now) }
 {
     match read(book) {
-        ReadAnswer::Records(n) => counted(n),
-        ReadAnswer::Refused(why) => refused(why),
+        Ok(n) => counted(n),
+        Err(why) => refused(why),
     }
 }
 
@@ -55,7 +55,7 @@ pub extern "C" fn simplicityhl_check(book: &[u8]) -> Outcome
     ensures { result ≡ check_outcome (check_of book.now) }
 {
     match check(book) {
-        CheckAnswer::Records(n) => counted(n),
-        CheckAnswer::Refused(why) => refused(why),
+        Ok(n) => counted(n),
+        Err(why) => refused(why),
     }
 }

@@ -1,10 +1,9 @@
 -- What is printed of READ's answer.
 -- Assumes nothing.
-use Rattle.std.specs.Prelude.{ℕ, List, codes}
+use Rattle.book.specs.declared.fault.Refusal.{Refusal}
+use Rattle.std.specs.Prelude.{ℕ, List, codes, Result, Ok, Err}
 use Rattle.console.specs.Lines.{count_line, refusal_line}
-use Rattle.book.specs.declared.fault.ReadAnswer.{ReadAnswer}
-use Rattle.book.specs.declared.fault.ReadAnswer.TheVariants as answers
 
-abbrev pub shown : ReadAnswer → List ℕ
-shown (answers.Records n) = count_line (codes "records") n
-shown (answers.Refused why) = refusal_line why
+abbrev pub shown : Result ℕ Refusal → List ℕ
+shown (Ok n) = count_line (codes "records") n
+shown (Err why) = refusal_line why

@@ -6,7 +6,6 @@ ghost use Rattle.std.specs.Io.KnownBytes.{Appends};
 ghost use Rattle.book.specs.Read.{read_of};
 ghost use Rattle.readbook.specs.Shown.{shown};
 
-use book::fault::ReadAnswer;
 use console::{print_count, print_refusal, read_full};
 use std::io;
 use std::io::{Read, Write};
@@ -15,12 +14,12 @@ use std::io::{Read, Write};
 const ROOM: usize = 65536;
 
 // How many records there are, or the refusal.
-fn show<W: Write>(out: &mut W, answer: ReadAnswer) -> io::Result<()>
+fn show<W: Write>(out: &mut W, answer: Result<u16, Refusal>) -> io::Result<()>
     ensures { OnOk result (Appends (W.contents out.old) (W.contents out.new) (shown answer)) }
 {
     match answer {
-        ReadAnswer::Records(count) => print_count(out, b"records", count as u64),
-        ReadAnswer::Refused(why) => print_refusal(out, why),
+        Ok(count) => print_count(out, b"records", count as u64),
+        Err(why) => print_refusal(out, why),
     }
 }
 

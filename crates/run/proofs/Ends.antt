@@ -1,5 +1,7 @@
 -- From the machine's end to the answer and the cells.
 -- Assumes nothing.
+use Rattle.std.specs.declared.result.Result.{Result}
+use Rattle.std.specs.declared.result.Result.TheVariants.{Ok, Err}
 use mathlib.Core.Path.{◌≡◌, refl, sym, ap, ◌∙◌}
 use mathlib.Core.List.{List, [], ◌∷◌}
 use mathlib.Core.Bool.{Bool, true, false}
@@ -14,15 +16,13 @@ use Rattle.book.specs.Read.{read_of, index_of}
 use Rattle.book.specs.Valid.{Valid}
 use Rattle.book.specs.declared.fault.Fault.{Fault}
 use Rattle.book.specs.declared.fault.Fault.TheVariants as faults
-use Rattle.book.specs.declared.fault.ReadAnswer.{ReadAnswer}
-use Rattle.book.specs.declared.fault.ReadAnswer.TheVariants as reads
 use Rattle.book.specs.declared.fault.Refusal.{Refusal}
 use Rattle.book.proofs.Established.{answer_valid}
 use Rattle.named.proofs.Images.{zeros}
 use Rattle.machine.specs.declared.State.{State}
 use Rattle.cells.specs.declared.table.Kept.{Kept}
-use Rattle.run.specs.declared.RunAnswer.{RunAnswer}
-use Rattle.run.specs.declared.RunAnswer.TheVariants as answers
+use Rattle.run.specs.Whole.{RunAnswer}
+use Rattle.run.specs.declared.Outcome.TheVariants as outcomes
 use Rattle.nodes.specs.declared.check.Verdict.{Verdict}
 use Rattle.nodes.specs.declared.check.Verdict.TheVariants as verdicts
 use Rattle.book.specs.Text.{Text, text}
@@ -52,15 +52,15 @@ result_add t (halt s (refuses f) n) = refl
 
 -- WHAT AN END ANSWERS
 module _ (t : List ℕ) (s : State) where
-  pub answers_value : s.mode ≡ 2 → (hs : List ℕ) → Answered (result_of (over_at s.mode s.node s.value (world s.used t hs))) (length t) (answers.Value s.value s.used) t
+  pub answers_value : s.mode ≡ 2 → (hs : List ℕ) → Answered (result_of (over_at s.mode s.node s.value (world s.used t hs))) (length t) (Ok (outcomes.Value s.value s.used)) t
   answers_value e hs = record { answer = rw e; table = rw e }
 
   pub answers_failed : {t' : List ℕ} → s.mode ≡ 3 → t' ≡ zeros (length t)
-      → (hs : List ℕ) → Answered (result_of (over_at s.mode s.node s.value (world s.used t hs))) (length t) answers.Failed t'
+      → (hs : List ℕ) → Answered (result_of (over_at s.mode s.node s.value (world s.used t hs))) (length t) (Ok outcomes.Failed) t'
   answers_failed e z hs = record { answer = rw e; table = rw e z }
 
   pub answers_refused : {f : Fault} {t' : List ℕ} → (s.mode ≡ 2 → ⊥) → refuses f ≡ end_of s.mode → t' ≡ zeros (length t)
-      → (hs : List ℕ) → Answered (result_of (over_at s.mode s.node s.value (world s.used t hs))) (length t) (answers.Refused (refusal f s.node)) t'
+      → (hs : List ℕ) → Answered (result_of (over_at s.mode s.node s.value (world s.used t hs))) (length t) (Err (refusal f s.node)) t'
   answers_refused {f} h e z hs = let q : eqb s.mode 2 ≡ false = ne_eqb s.mode 2 h in record { answer = rw (q, ← e); table = rw (q, ← e) z }
 
 -- THE MACHINE'S START: a node on a cell, no frame
@@ -76,7 +76,7 @@ module _ (g : Given) (c : ℕ) {t t₁ : List ℕ} {p : Kept} (z : t ≡ zeros (
   ended_leads = ap (λ (o : Out). bind o (λ v. run DEEP g (c - 1) 0)) (ap (λ (x : List ℕ). seeds g.book g.book.records (world 0 x [])) (sym z) ∙ sym (s.same []))
 
   pub table_full : {t₂ : List ℕ} → p.full ≡ true → length t₁ ≡ length t → t₂ ≡ zeros (length t₁)
-      → Answered (result_of (ended g c (length t))) (length t) (answers.Refused (refusal faults.Cells 0)) t₂
+      → Answered (result_of (ended g c (length t))) (length t) (Err (refusal faults.Cells 0)) t₂
   unfolding leads bind
   table_full e l y = let q : ended g c (length t) ≡ halt 0 (refuses faults.Cells) 0 = ended_leads ∙ rw e in record { answer = rw q; table = rw q (rw l at y) }
 
@@ -107,25 +107,25 @@ module _ (g : Given) (c : ℕ) (t : List ℕ) {v : Verdict} (e : verdict_of v �
   pub read_well : {a : RunAnswer} {t' : List ℕ} → v ≡ verdicts.Well → Answered (result_of (ended g c (length t))) (length t) a t' → Answered (after_read g c (length t)) (length t) a t'
   read_well w h = let q : judge g.book g.nodes c ≡ well_formed = sym e ∙ ap verdict_of w in record { answer = rw q h.answer; table = rw q h.table }
 
-  pub read_bad : {p : ℕ} → v ≡ verdicts.BadAt p → t ≡ zeros (length t) → Answered (after_read g c (length t)) (length t) (answers.Refused (refusal faults.Nodes p)) t
+  pub read_bad : {p : ℕ} → v ≡ verdicts.BadAt p → t ≡ zeros (length t) → Answered (after_read g c (length t)) (length t) (Err (refusal faults.Nodes p)) t
   read_bad w z = let q : judge g.book g.nodes c ≡ bad_at _ = sym e ∙ ap verdict_of w in record { answer = rw q; table = rw q z }
 
 -- THE WHOLE CALL
-pub book_valid : {b i : List ℕ} {n : ℕ} → read_of b ≡ reads.Records n → i ≡ index_of b → Valid b i n
+pub book_valid : {b i : List ℕ} {n : ℕ} → read_of b ≡ Ok n → i ≡ index_of b → Valid b i n
 book_valid {b} {n = n} e q = rw q (answer_valid b n e)
 
 pub cleared : {t : List ℕ} (n : ℕ) → t ≡ zeros n → t ≡ zeros (length t)
 cleared {t} n e = let z : n ≡ length t = sym (ap length e ∙ length-replicate {A = ℕ} n 0) in e ∙ ap zeros z
 
-module _ (b ws ns : List ℕ) (c m : ℕ) {x : ReadAnswer} {t : List ℕ} (p : x ≡ read_of b) where
-  pub whole_refused : {w : Refusal} → x ≡ reads.Refused w → t ≡ zeros m → (answers.Refused w ≡ run_of b ws ns c m) × (t ≡ table_of b ws ns c m)
+module _ (b ws ns : List ℕ) (c m : ℕ) {x : Result ℕ Refusal} {t : List ℕ} (p : x ≡ read_of b) where
+  pub whole_refused : {w : Refusal} → x ≡ Err w → t ≡ zeros m → (Err w ≡ run_of b ws ns c m) × (t ≡ table_of b ws ns c m)
   unfolding run_of table_of resulting
-  whole_refused e z = let q : read_of b ≡ reads.Refused _ = sym p ∙ e in (rw (q, resulting), rw (q, resulting) z)
+  whole_refused e z = let q : read_of b ≡ Err _ = sym p ∙ e in (rw (q, resulting), rw (q, resulting) z)
 
-  pub whole_read : {n : ℕ} {i : List ℕ} {a : RunAnswer} {t' : List ℕ} → x ≡ reads.Records n → i ≡ index_of b → t ≡ zeros m
+  pub whole_read : {n : ℕ} {i : List ℕ} {a : RunAnswer} {t' : List ℕ} → x ≡ Ok n → i ≡ index_of b → t ≡ zeros m
       → Answered (after_read (given (text b i n) ws ns) c (length t)) (length t) a t' → (a ≡ run_of b ws ns c m) × (t' ≡ table_of b ws ns c m)
   unfolding run_of table_of resulting
   whole_read {n} {i} e j z h =
-      let q : read_of b ≡ reads.Records n = sym p ∙ e in
+      let q : read_of b ≡ Ok n = sym p ∙ e in
       let l : length t ≡ m = ap length z ∙ length-replicate {A = ℕ} m 0 in
       (rw (q, resulting) (rw (j, l) at h.answer), rw (q, resulting) (rw (j, l) at h.table))

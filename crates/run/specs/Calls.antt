@@ -6,7 +6,7 @@ use Rattle.cells.specs.Cells.{World, world, Out, bind}
 use Rattle.cells.specs.Keeping.{leads}
 use Rattle.cells.specs.declared.table.Kept.{Kept}
 use Rattle.run.specs.Whole.{seeds, Result, answer_of, cells_of}
-use Rattle.run.specs.declared.RunAnswer.{RunAnswer}
+use Rattle.run.specs.Whole.{RunAnswer}
 
 -- from p and the table t on, m was done before the run: it led to q and the table t'
 pub record Seeded (t : List ℕ) (p : Kept) (m : ℕ → World → Out) (q : Kept) (t' : List ℕ) : Type 0 where

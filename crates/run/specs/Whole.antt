@@ -1,6 +1,6 @@
 -- RUN: its answer and every byte of its cells, for every list of bytes and every number.
 -- Assumes nothing.
-use Rattle.std.specs.Prelude.{ℕ, zero, suc, ◌-◌, List, [], ◌∷◌, replicate, eqb}
+use Rattle.std.specs.Prelude.{ℕ, zero, suc, ◌-◌, List, [], ◌∷◌, replicate, eqb, Ok, Err}
 use Rattle.laws.specs.Table.{pick, at, choose}
 use Rattle.book.specs.Format.{VALUE, VU, VL, VR}
 use Rattle.book.specs.Index.{kind, mark, field}
@@ -8,14 +8,14 @@ use Rattle.book.specs.Read.{read_of, index_of}
 use Rattle.book.specs.Faults.{refusal}
 use Rattle.book.specs.declared.fault.Fault.TheVariants.{Nodes}
 use Rattle.book.specs.declared.fault.Refusal.{Refusal}
-use Rattle.book.specs.declared.fault.ReadAnswer.TheVariants as reads
 use Rattle.book.specs.Text.{Text, text}
 use Rattle.nodes.specs.Given.{Given, given, cell_of}
 use Rattle.nodes.specs.Nodes.{Judged, well_formed, bad_at, judge}
 use Rattle.cells.specs.Cells.{unit_cell, left_cell, right_cell, pair_cell, World, world, fails, refuses, Out, got, halt, bind, store}
 use Rattle.machine.specs.Run.{DEEP, run}
-use Rattle.run.specs.declared.RunAnswer.{RunAnswer}
-use Rattle.run.specs.declared.RunAnswer.TheVariants as answers
+use Rattle.std.specs.declared.result.Result as results
+use Rattle.run.specs.declared.Outcome as ran
+use Rattle.run.specs.declared.Outcome.TheVariants as outcomes
 
 -- the cell of field k of record r, which names a value
 abbrev pub part_of : Text → ℕ → ℕ → ℕ
@@ -63,13 +63,16 @@ after_read g c m = after_check (judge g.book g.nodes c) g c m
 
 -- document 01, Refusals by number: READ's refusal comes first. The book b, the witness list ws, the node table ns with its count c, m bytes for cells
 unfoldable pub resulting : List ℕ → List ℕ → List ℕ → ℕ → ℕ → Result
-resulting b ws ns c m = elim (read_of b) [ reads.Records n ↦ after_read (given (text b (index_of b) n) ws ns) c m | reads.Refused w ↦ refused w ]
+resulting b ws ns c m = elim (read_of b) [ Ok n ↦ after_read (given (text b (index_of b) n) ws ns) c m | Err w ↦ refused w ]
 
--- document 01, Refusals by number: a value's cell with the cells used; FAILED; a refusal
+-- document 01, Refusals by number: a value's cell with the cells used, or FAILED; or a refusal
+abbrev pub RunAnswer : Type 0
+RunAnswer = results.Result ran.Outcome Refusal
+
 abbrev pub answer_of : Result → RunAnswer
-answer_of (valued v u t) = answers.Value v u
-answer_of failing = answers.Failed
-answer_of (refused w) = answers.Refused w
+answer_of (valued v u t) = Ok (outcomes.Value v u)
+answer_of failing = Ok outcomes.Failed
+answer_of (refused w) = Err w
 
 -- document 01, CHECK and the meanings: FAILED and a refusal leave a zero table of m bytes
 abbrev pub cells_of : ℕ → Result → List ℕ

@@ -13,36 +13,30 @@ ghost use Rattle.machine.specs.Machine.{Sound, Stopped, end_of, over_at};
 
 use book::record::Book;
 use crate::initial::{number_values, seed_cells};
-use book::fault::{Fault, ReadAnswer, Refusal};
+use book::fault::{Fault, Refusal};
 use book::read::index_book;
 use machine::{State, drive};
 use named::table::clear;
 use nodes::check::{Verdict, judge_table};
 
 mod initial;
-// RUN's answer: a value's cell and how many cells are used, a failure, or a refusal.
+// How a run comes out: with a value's cell, and how many cells are used; or it fails.
 #[derive(Clone, Copy)]
-pub enum RunAnswer {
+pub enum Outcome {
     Value { cell: u16, count: u16 },
     Failed,
-    Refused(Refusal),
 }
 
 // RUN: the last node of a table on the unit, over lent cells. Zeros follow the cells used; after a failure or a refusal all are zero.
-pub fn run(book: &[u8], witnesses: &[u8], nodes: &[u8], count: u32, cells: &mut [u8]) -> RunAnswer
+pub fn run(book: &[u8], witnesses: &[u8], nodes: &[u8], count: u32, cells: &mut [u8]) -> Result<Outcome, Refusal>
     ensures { (result ≡ run_of book.now witnesses.now nodes.now count (length cells.old))
         × (cells.new ≡ table_of book.now witnesses.now nodes.now count (length cells.old)) }
 {
     clear(cells);
     let indexed = index_book(book);
-    let answer = indexed.answer;
-    match answer {
-        ReadAnswer::Records(n) => {
-            let opened = Book::new(book, &indexed.index, n);
-            run_read(&opened, witnesses, nodes, count, cells)
-        }
-        ReadAnswer::Refused(w) => RunAnswer::Refused(w),
-    }
+    let records = indexed.answer?;
+    let book = Book::new(book, &indexed.index, records);
+    run_read(&book, witnesses, nodes, count, cells)
 }
 
 // The same once the book is read, over zero cells.
@@ -52,14 +46,14 @@ fn run_read(
     nodes: &[u8],
     count: u32,
     cells: &mut [u8],
-) -> RunAnswer
+) -> Result<Outcome, Refusal>
     requires valid { Valid book.now.bytes book.now.index book.now.records }
     requires cells_is { cells.old ≡ replicate (length cells.old) 0 }
     ensures { Answered (after_read (given book.now witnesses.now nodes.now) count (length cells.old)) (length cells.old) result cells.new }
 {
     match judge_table(book, nodes, count) {
         Verdict::Well => run_table(book, witnesses, nodes, count, cells),
-        Verdict::BadAt(p) => RunAnswer::Refused(Refusal {
+        Verdict::BadAt(p) => Err(Refusal {
             fault: Fault::Nodes,
             place: p,
         }),
@@ -73,7 +67,7 @@ fn run_table(
     nodes: &[u8],
     count: u32,
     cells: &mut [u8],
-) -> RunAnswer
+) -> Result<Outcome, Refusal>
     requires valid { Valid book.now.bytes book.now.index book.now.records }
     requires cells_is { cells.old ≡ replicate (length cells.old) 0 }
     requires count_in_range { (0 < count) × (count ≤ 65535) }
@@ -84,7 +78,7 @@ fn run_table(
     let p = seed_cells(book, &row, cells);
     if p.full {
         clear(cells);
-        return RunAnswer::Refused(Refusal {
+        return Err(Refusal {
             fault: Fault::Cells,
             place: 0,
         });
@@ -152,21 +146,21 @@ fn fault_of(mode: u16) -> Fault
 }
 
 // What a run that ended answers. A failure and a refusal leave no cells.
-fn answer_of(cells: &mut [u8], s: State) -> RunAnswer
+fn answer_of(cells: &mut [u8], s: State) -> Result<Outcome, Refusal>
     requires { 2 ≤ s.mode }
     ensures { (hs : List ℕ) → Answered (result_of (over_at s.mode s.node s.value (world s.used cells.old hs))) (length cells.old) result cells.new }
 {
     if s.mode == 2 {
-        return RunAnswer::Value {
+        return Ok(Outcome::Value {
             cell: s.value,
             count: s.used,
-        };
+        });
     }
     clear(cells);
     if s.mode == 3 {
-        return RunAnswer::Failed;
+        return Ok(Outcome::Failed);
     }
-    RunAnswer::Refused(Refusal {
+    Err(Refusal {
         fault: fault_of(s.mode),
         place: s.node,
     })

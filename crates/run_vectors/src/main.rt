@@ -10,7 +10,7 @@ ghost use Rattle.std.specs.Prelude.{◌+◌, ◌*◌, ◌≤◌, ◌<◌, length
 use book::fault::fault_number;
 use book::word::word;
 use console::read_full;
-use run::{RunAnswer, run};
+use run::{Outcome, run};
 use std::io;
 use std::io::{Read, Write};
 use vectors::{begins_with, fill, is_zero_from, print_totals, print_wrong};
@@ -89,11 +89,11 @@ fn is_value(head: [u8; 56], count: u16, cell: u16) -> bool {
 }
 
 // A failure is a success that has no cells.
-fn is_answer(head: [u8; 56], answer: RunAnswer) -> bool {
+fn is_answer(head: [u8; 56], answer: Result<Outcome, Refusal>) -> bool {
     match answer {
-        RunAnswer::Value { cell, count } => is_value(head, count, cell),
-        RunAnswer::Failed => is_value(head, 0, 0),
-        RunAnswer::Refused(why) => {
+        Ok(Outcome::Value { cell, count }) => is_value(head, count, cell),
+        Ok(Outcome::Failed) => is_value(head, 0, 0),
+        Err(why) => {
             let fault = why.fault;
             if !is_number(head, NUMBER, fault_number(fault) as u16) {
                 return false;

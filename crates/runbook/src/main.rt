@@ -6,9 +6,9 @@ ghost use Rattle.std.specs.Prelude.{◌≡◌, ◌+◌, ◌≤◌, ◌<◌, leng
 
 use book::word::word;
 use cells::table::{LEFT, RIGHT, UNIT, kind_at, left_at, right_at};
-use compile::{LowerAnswer, lower};
+use compile::lower;
 use console::{print_refusal, read_full};
-use run::{RunAnswer, run};
+use run::{Outcome, run};
 use std::io;
 use std::io::{Read, Write};
 
@@ -185,17 +185,17 @@ fn run_nodes(
 ) -> io::Result<()> {
     let mut cells = [0u8; TABLE];
     match run(book, witnesses, nodes, count as u32, &mut cells) {
-        RunAnswer::Value { cell, .. } => print_value(out, &cells, cell),
-        RunAnswer::Failed => print(out, b"failed\n"),
-        RunAnswer::Refused(why) => print_refusal(out, why),
+        Ok(Outcome::Value { cell, .. }) => print_value(out, &cells, cell),
+        Ok(Outcome::Failed) => print(out, b"failed\n"),
+        Err(why) => print_refusal(out, why),
     }
 }
 
 fn run_book(out: &mut impl Write, book: &[u8], witnesses: &[u8]) -> io::Result<()> {
     let mut nodes = [0u8; TABLE];
     match lower(book, false, &mut nodes) {
-        LowerAnswer::Nodes(count) => run_nodes(out, book, witnesses, &nodes, count),
-        LowerAnswer::Refused(why) => print_refusal(out, why),
+        Ok(count) => run_nodes(out, book, witnesses, &nodes, count),
+        Err(why) => print_refusal(out, why),
     }
 }
 

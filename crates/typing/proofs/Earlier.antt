@@ -1,5 +1,6 @@
 -- What holds of each record of a kind before record r holds of those that r's fields name; so each by those before it.
 -- Assumes nothing.
+use Rattle.std.specs.declared.result.Result.TheVariants.{Ok}
 use Prim.Native.Nat.{ℕ, zero, suc, ◌+◌, ◌*◌, ◌<◌}
 use mathlib.Core.List.{List}
 use mathlib.Core.Path.{◌≡◌, subst}
@@ -9,13 +10,12 @@ use lib.ListN.{get_or}
 use Rattle.book.specs.Index.{mark, kind, field}
 use Rattle.book.specs.Read.{read_of, index_of}
 use Rattle.book.specs.Stands.{Stands}
-use Rattle.book.specs.declared.fault.ReadAnswer.TheVariants as reads
 use Rattle.book.proofs.Established.{answer_valid}
 use Rattle.book.proofs.Roles.{layout, counted, is_kind}
 use Rattle.book.proofs.Standing.{head_stands, head_below, each_stands, each_below}
 
 -- a record of a book that READ accepts stands
-pub read_stands : {b : List ℕ} {n : ℕ} → read_of b ≡ reads.Records n → {kd : ℕ} (r : ℕ) → r < n → kind b (index_of b) r ≡ kd → Stands b (index_of b) r kd
+pub read_stands : {b : List ℕ} {n : ℕ} → read_of b ≡ Ok n → {kd : ℕ} (r : ℕ) → r < n → kind b (index_of b) r ≡ kd → Stands b (index_of b) r kd
 read_stands {b} {n} e r o k = record { records = n; valid = answer_valid b n e; inside = o; is = k }
 
 -- P holds of each record of kind kd before record r

@@ -1,5 +1,8 @@
 -- CHECK passes exactly the typed books.
 -- Assumes nothing.
+use Rattle.book.specs.declared.fault.Refusal.{Refusal}
+use Rattle.std.specs.declared.result.Result.{Result}
+use Rattle.std.specs.declared.result.Result.TheVariants.{Ok, Err}
 use Prim.Native.Nat.{ℕ, zero, suc, ◌+◌, ◌-◌, ◌≤◌, ◌<◌}
 use mathlib.Core.Bool.{Bool, true, false}
 use mathlib.Core.List.{List}
@@ -14,16 +17,12 @@ use Rattle.book.specs.Format.{VALUE, FUNCTION}
 use Rattle.book.specs.Index.{kind}
 use Rattle.book.specs.Read.{read_of, index_of}
 use Rattle.book.specs.Tree.{expr_of, fun_of}
-use Rattle.book.specs.declared.fault.ReadAnswer.{ReadAnswer}
-use Rattle.book.specs.declared.fault.ReadAnswer.TheVariants as reads
 use Rattle.book.proofs.Established.{answer_valid}
 use Rattle.shapes.specs.Wholes.{value_agrees}
 use Rattle.binders.specs.Binders.{root_scope}
 use Rattle.typing.specs.Check.{check_fun}
 use Rattle.typing.specs.Whole.{in_order, value_at, function_at, checking, answer_of, check_of}
 use Rattle.typing.specs.Typed.{TypedBook}
-use Rattle.typing.specs.declared.CheckAnswer.{CheckAnswer}
-use Rattle.typing.specs.declared.CheckAnswer.TheVariants as answers
 use Rattle.typing.specs.declared.cycle.Checked.{Checked}
 use Rattle.typing.specs.declared.cycle.Checked.TheVariants.{Passed, Refused}
 use Rattle.typing.proofs.Earlier.{read_stands}
@@ -57,7 +56,7 @@ passed_kind : (kd w : ℕ) (v : Checked) → pick (eqb kd w) v Passed ≡ Passed
 passed_kind kd w v h e = rw (eq-eqb kd w e) at h
 
 -- the records of a book that READ accepts
-module _ (b : List ℕ) (n : ℕ) (e : read_of b ≡ reads.Records n) where
+module _ (b : List ℕ) (n : ℕ) (e : read_of b ≡ Ok n) where
   abbrev i : List ℕ
   i = index_of b
 
@@ -88,22 +87,22 @@ module _ (b : List ℕ) (n : ℕ) (e : read_of b ≡ reads.Records n) where
       }
 
 -- an answer that is a number of records is that of a pass
-passed_answer : (k n : ℕ) (v : Checked) → answer_of k v ≡ answers.Records n → (k ≡ n) × (v ≡ Passed)
+passed_answer : (k n : ℕ) (v : Checked) → answer_of k v ≡ Ok n → (k ≡ n) × (v ≡ Passed)
 unfolding answer_of
 passed_answer k n Passed e = (cc, refl)
 passed_answer k n (Refused w) e = absurd (let z : ◌≡◌ {A = ℕ} 0 1 = cc in omega arith)
 
 -- what CHECK answers after READ's answer
-abbrev after_read : List ℕ → ReadAnswer → CheckAnswer
-after_read b v = elim v [ reads.Records k ↦ answer_of k (checking b (index_of b) k) | reads.Refused w ↦ answers.Refused w ]
+abbrev after_read : List ℕ → Result ℕ Refusal → Result ℕ Refusal
+after_read b v = elim v [ Ok k ↦ answer_of k (checking b (index_of b) k) | Err w ↦ Err w ]
 
 -- CHECK's answer is the number of records exactly where the book is typed
-pub passes_exactly : (b : List ℕ) (n : ℕ) → (check_of b ≡ answers.Records n → TypedBook b n) × (TypedBook b n → check_of b ≡ answers.Records n)
+pub passes_exactly : (b : List ℕ) (n : ℕ) → (check_of b ≡ Ok n → TypedBook b n) × (TypedBook b n → check_of b ≡ Ok n)
 unfolding check_of answer_of
 passes_exactly b n = (go (read_of b) refl, λ t. ap (after_read b) t.reads ∙ ap (answer_of n) (checking_passes b n t.reads t))
   where
-    go : (v : ReadAnswer) → read_of b ≡ v → after_read b v ≡ answers.Records n → TypedBook b n
-    go (reads.Records k) e h =
+    go : (v : Result ℕ Refusal) → read_of b ≡ v → after_read b v ≡ Ok n → TypedBook b n
+    go (Ok k) e h =
         let p = passed_answer k n (checking b (index_of b) k) h in
-        passed_checking b n (e ∙ ap reads.Records p.0) (rw (← p.0) p.1)
-    go (reads.Refused w) e h = absurd (let z : ◌≡◌ {A = ℕ} 0 1 = cc in omega arith)
+        passed_checking b n (e ∙ ap Ok p.0) (rw (← p.0) p.1)
+    go (Err w) e h = absurd (let z : ◌≡◌ {A = ℕ} 0 1 = cc in omega arith)

@@ -1,5 +1,7 @@
 -- From the records in their order to CHECK's answer.
 -- Assumes nothing.
+use Rattle.std.specs.declared.result.Result.{Result}
+use Rattle.std.specs.declared.result.Result.TheVariants.{Ok, Err}
 use Prim.Native.Nat.{ℕ, suc, ◌+◌, ◌-◌, ◌≤◌, ◌<◌}
 use mathlib.Core.Bool.{Bool, false}
 use mathlib.Core.List.{List, [], ◌∷◌}
@@ -18,8 +20,6 @@ use Rattle.book.specs.Stands.{Stands}
 use Rattle.book.specs.Tree.{expr_of, fun_of, pattern_of, as_pattern, group}
 use Rattle.book.specs.Valid.{Valid, Tiles}
 use Rattle.book.specs.declared.fault.Refusal.{Refusal}
-use Rattle.book.specs.declared.fault.ReadAnswer.{ReadAnswer}
-use Rattle.book.specs.declared.fault.ReadAnswer.TheVariants as reads
 use Rattle.book.proofs.Established.{answer_valid}
 use Rattle.book.proofs.Tiles.{read_tiles}
 use Rattle.book.proofs.Roles.{record_begins}
@@ -31,7 +31,6 @@ use Rattle.binders.specs.Memos.{Known, Doubled, Live, scope_of}
 use Rattle.typing.specs.Check.{and_then, agree, check, check_fun}
 use Rattle.typing.specs.Cycle.{Among, Rows, Stays}
 use Rattle.typing.specs.Whole.{in_order, value_at, function_at, checking, answer_of, check_of}
-use Rattle.typing.specs.declared.CheckAnswer.TheVariants as answers
 use Rattle.typing.specs.declared.cycle.Checked.{Checked}
 use Rattle.typing.specs.declared.cycle.Checked.TheVariants.{Passed, Refused}
 
@@ -186,25 +185,25 @@ pub zeros_long : {ms : List ℕ} (n : ℕ) → ms ≡ replicate n 0 → length m
 zeros_long n e = ap length e ∙ length-replicate {A = ℕ} n 0
 
 -- the records of a book that READ accepts lie end to end
-answer_tiles : (b : List ℕ) (n : ℕ) → read_of b ≡ reads.Records n → Tiles b (index_of b) n
+answer_tiles : (b : List ℕ) (n : ℕ) → read_of b ≡ Ok n → Tiles b (index_of b) n
 unfolding read_of index_of
 answer_tiles b n = go (reading b) refl
   where
-    go : (o : Outcome) → reading b ≡ o → read.answer_of o ≡ reads.Records n → Tiles b (places_of o) n
+    go : (o : Outcome) → reading b ≡ o → read.answer_of o ≡ Ok n → Tiles b (places_of o) n
     go (done m i) e q = let z : m ≡ n = cc in rw z at (read_tiles b i m e)
     go (refused w) e q = absurd (let z : ◌≡◌ {A = ℕ} 0 1 = cc in omega arith)
 
 -- CHECK's answer, by READ's
-by_read : (b : List ℕ) (n : ℕ) → read_of b ≡ reads.Records n → check_of b ≡ answer_of n (checking b (index_of b) n)
+by_read : (b : List ℕ) (n : ℕ) → read_of b ≡ Ok n → check_of b ≡ answer_of n (checking b (index_of b) n)
 unfolding check_of
 by_read b n e = rw (e, check_of)
 
-by_refusal : (b : List ℕ) (w : Refusal) → read_of b ≡ reads.Refused w → check_of b ≡ answers.Refused w
+by_refusal : (b : List ℕ) (w : Refusal) → read_of b ≡ Err w → check_of b ≡ Err w
 unfolding check_of
 by_refusal b w e = rw (e, check_of)
 
-module _ (b : List ℕ) {x : ReadAnswer} (p : x ≡ read_of b) where
-  module _ (n : ℕ) {i : List ℕ} (q : i ≡ index_of b) (e : x ≡ reads.Records n) where
+module _ (b : List ℕ) {x : Result ℕ Refusal} (p : x ≡ read_of b) where
+  module _ (n : ℕ) {i : List ℕ} (q : i ≡ index_of b) (e : x ≡ Ok n) where
     pub book_valid : Valid b i n
     book_valid = rw q (answer_valid b n (sym p ∙ e))
 
@@ -215,13 +214,13 @@ module _ (b : List ℕ) {x : ReadAnswer} (p : x ≡ read_of b) where
       answer_is : check_of b ≡ answer_of n c
       answer_is = by_read b n (sym p ∙ e) ∙ rw (d, q)
 
-      pub check_passed : c ≡ Passed → answers.Records n ≡ check_of b
+      pub check_passed : c ≡ Passed → Ok n ≡ check_of b
       unfolding answer_of
       check_passed f = sym (answer_is ∙ rw f)
 
-      pub check_refused : {w : Refusal} → c ≡ Refused w → answers.Refused w ≡ check_of b
+      pub check_refused : {w : Refusal} → c ≡ Refused w → Err w ≡ check_of b
       unfolding answer_of
       check_refused f = sym (answer_is ∙ rw f)
 
-  pub read_refused : {w : Refusal} → x ≡ reads.Refused w → answers.Refused w ≡ check_of b
+  pub read_refused : {w : Refusal} → x ≡ Err w → Err w ≡ check_of b
   read_refused {w} e = sym (by_refusal b w (sym p ∙ e))

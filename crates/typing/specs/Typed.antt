@@ -1,13 +1,12 @@
 -- The typing of trees: what a book that CHECK passes keeps, and what the meaning of its lowering rests on.
 -- Assumes nothing.
-use Rattle.std.specs.Prelude.{ℕ, zero, suc, ◌-◌, ◌<◌, true, false, List, ◌∷◌, ◌≡◌}
+use Rattle.std.specs.Prelude.{ℕ, zero, suc, ◌-◌, ◌<◌, true, false, List, ◌∷◌, ◌≡◌, Ok}
 use Rattle.std.proofs.Math.Option.{some}
 use Rattle.simplicity.specs.Types.{Ty, one}
 use Rattle.simplicity.specs.Values.{Of}
 use Rattle.book.specs.Format.{VALUE, FUNCTION}
 use Rattle.book.specs.Index.{kind}
 use Rattle.book.specs.Read.{read_of, index_of}
-use Rattle.book.specs.declared.fault.ReadAnswer.TheVariants as reads
 use Rattle.book.specs.Tree.{Pat, Expr, constant, witness, variable, tuple, list, in_left, in_right, variant, block, match, match_enum, jet, unwrap_left, unwrap_right, debug, assert, panic, is_none, cast, call, list_fold, array_fold, for_while, hash, no_expr, Exprs, no_exprs, more_exprs, Arms, no_arms, more_arms, Parts, no_parts, more_parts, Stmts, assign, does, end, no_end, Fun, fun, expr_of, fun_of}
 use Rattle.shapes.specs.Shapes.{type_is, has_places, whole}
 use Rattle.shapes.specs.Wholes.{value_agrees}
@@ -78,7 +77,7 @@ unfoldable mutual
 
 -- document 01, CHECK and the meanings: a book of n records is typed: READ accepts it, each value's declared type is the one that its parts give, each function is typed, called or not, and the root is typed where the input is all that is bound
 pub record TypedBook (b : List ℕ) (n : ℕ) : Type 0 where
-  pub reads : read_of b ≡ reads.Records n
+  pub reads : read_of b ≡ Ok n
   pub values : (r : ℕ) → r < n → kind b (index_of b) r ≡ VALUE → value_agrees b (index_of b) r ≡ true
   pub functions : (r : ℕ) → r < n → kind b (index_of b) r ≡ FUNCTION → FunTyped (fun_of b (index_of b) r)
   pub root : Typed root_scope (expr_of b (index_of b) (n - 1))

@@ -1,17 +1,15 @@
 -- CHECK: its answer for every list of bytes.
 -- Assumes nothing.
-use Rattle.std.specs.Prelude.{ℕ, zero, suc, ◌-◌, List, eqb}
+use Rattle.book.specs.declared.fault.Refusal.{Refusal}
+use Rattle.std.specs.Prelude.{ℕ, zero, suc, ◌-◌, List, eqb, Result, Ok, Err}
 use Rattle.laws.specs.Table.{pick}
 use Rattle.book.specs.Format.{VALUE, FUNCTION}
 use Rattle.book.specs.Index.{kind}
 use Rattle.book.specs.Read.{read_of, index_of}
 use Rattle.book.specs.Tree.{expr_of, fun_of}
-use Rattle.book.specs.declared.fault.ReadAnswer.TheVariants as reads
 use Rattle.shapes.specs.Wholes.{value_agrees}
 use Rattle.binders.specs.Binders.{root_scope}
 use Rattle.typing.specs.Check.{and_then, agree, check, check_fun}
-use Rattle.typing.specs.declared.CheckAnswer.{CheckAnswer}
-use Rattle.typing.specs.declared.CheckAnswer.TheVariants as answers
 use Rattle.typing.specs.declared.cycle.Checked.{Checked}
 use Rattle.typing.specs.declared.cycle.Checked.TheVariants.{Passed, Refused}
 
@@ -34,10 +32,10 @@ module _ (b i : List ℕ) where
   checking n = and_then (in_order value_at 0 n) (and_then (in_order function_at 0 n) (check (expr_of b i (n - 1)) root_scope))
 
 -- a success has the number of records
-unfoldable pub answer_of : ℕ → Checked → CheckAnswer
-answer_of n Passed = answers.Records n
-answer_of n (Refused w) = answers.Refused w
+unfoldable pub answer_of : ℕ → Checked → Result ℕ Refusal
+answer_of n Passed = Ok n
+answer_of n (Refused w) = Err w
 
 -- document 01, Refusals by number: READ's refusal, or what is judged of the records
-unfoldable pub check_of : List ℕ → CheckAnswer
-check_of b = elim (read_of b) [ reads.Records n ↦ answer_of n (checking b (index_of b) n) | reads.Refused w ↦ answers.Refused w ]
+unfoldable pub check_of : List ℕ → Result ℕ Refusal
+check_of b = elim (read_of b) [ Ok n ↦ answer_of n (checking b (index_of b) n) | Err w ↦ Err w ]

@@ -12,7 +12,7 @@ ghost use Rattle.typing.specs.Whole.{in_order, value_at, function_at, checking, 
 
 use crate::cycle::{Checked, agree, expression, function};
 use binders::doubles;
-use book::fault::{ReadAnswer, Refusal};
+use book::fault::Refusal;
 use book::format::{FUNCTION, VALUE, kind_of};
 use book::read::index_book;
 use book::record::Book;
@@ -21,28 +21,16 @@ use shapes::whole::value_agrees;
 
 pub mod cycle;
 
-// CHECK's answer: how many records there are, or a refusal.
-#[derive(Clone, Copy)]
-pub enum CheckAnswer {
-    Records(u16),
-    Refused(Refusal),
-}
-
-// CHECK: READ's refusal, or the first fault of value records, functions and the root.
-pub fn check(book: &[u8]) -> CheckAnswer
+// CHECK: how many records there are; or READ's refusal, or the first fault of value records, functions and the root.
+pub fn check(book: &[u8]) -> Result<u16, Refusal>
     ensures { result ≡ check_of book.now }
 {
     let indexed = index_book(book);
-    let answer = indexed.answer;
-    match answer {
-        ReadAnswer::Records(n) => {
-            let opened = Book::new(book, &indexed.index, n);
-            match records(&opened, n) {
-                Checked::Passed => CheckAnswer::Records(n),
-                Checked::Refused(w) => CheckAnswer::Refused(w),
-            }
-        }
-        ReadAnswer::Refused(w) => CheckAnswer::Refused(w),
+    let n = indexed.answer?;
+    let book = Book::new(book, &indexed.index, n);
+    match records(&book, n) {
+        Checked::Passed => Ok(n),
+        Checked::Refused(w) => Err(w),
     }
 }
 

@@ -18,12 +18,12 @@ read_records-requires c =
     let w = sized_is _ e in
     record { ready = ready_start _ w.1; book_fits = w.0; chained = chained_start _ _ }
 
-pub returns-in-Records : goal.returns-in-Records
-returns-in-Records c =
+pub returns-in-Ok : goal.returns-in-Ok
+returns-in-Ok c =
     let e : sized (length c.args.book.now) ≡ true = sym c.is_sized.ensures ∙ c.if-not-is_sized.false in
-    records_answer _ e c.read_records.result c.read_records.new.index c.read_records.ensures _ c.in-Records.is
+    records_answer _ e c.read_records.result c.read_records.new.index c.read_records.ensures _ c.in-Ok.is
 
-pub returns-in-Refused : goal.returns-in-Refused
-returns-in-Refused c =
+pub returns-in-Err : goal.returns-in-Err
+returns-in-Err c =
     let e : sized (length c.args.book.now) ≡ true = sym c.is_sized.ensures ∙ c.if-not-is_sized.false in
-    refusal_answers _ e c.read_records.result c.read_records.new.index c.read_records.ensures _ c.in-Refused.is
+    refusal_answers _ e c.read_records.result c.read_records.new.index c.read_records.ensures _ c.in-Err.is
