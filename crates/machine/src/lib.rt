@@ -227,13 +227,7 @@ fn enter_case(
 }
 
 // A witness: its name's entry, if it is of its type.
-fn enter_witness(
-    book: &Book,
-    witnesses: &[u8],
-    row: &[u16],
-    nodes: &[u8],
-    s: State,
-) -> State
+fn enter_witness(book: &Book, witnesses: &[u8], row: &[u16], nodes: &[u8], s: State) -> State
     requires { Sound book.now row.now }
     ensures { Answers s (witnessed (given book.now witnesses.now nodes.now) s.node) result }
 {
@@ -385,9 +379,7 @@ fn turn(
     ensures { Turned (given book.now witnesses.now nodes.now) cells.old (stack codes.old places.old held.old) s cells.new (stack codes.new places.new held.new) result }
 {
     if s.mode == ENTER {
-        return enter(
-            book, witnesses, row, nodes, cells, codes, places, held, s,
-        );
+        return enter(book, witnesses, row, nodes, cells, codes, places, held, s);
     }
     back(nodes, cells, codes, places, held, s)
 }
@@ -411,9 +403,7 @@ pub fn drive(
 {
     let mut s = start;
     while s.mode < DONE {
-        s = turn(
-            book, witnesses, row, nodes, cells, codes, places, held, s,
-        );
+        s = turn(book, witnesses, row, nodes, cells, codes, places, held, s);
     }
     s
 }

@@ -4,9 +4,9 @@ ghost use Rattle.book.specs.Valid.{Valid};
 ghost use Rattle.book.specs.Text.{text};
 ghost use Rattle.nodes.specs.Nodes.{operand_at, role_at, fits, first_bad, judge, verdict_of};
 
-use book::record::Book;
 use crate::given::is_of;
 use book::format::{TYPE, VALUE};
+use book::record::Book;
 use cells::table::{kind_at, left_at, right_at};
 
 // What an operand must be: anything, a child, a type's or a value's record, a jet. None is right where the kind is bad.

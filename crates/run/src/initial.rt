@@ -40,13 +40,7 @@ fn part(book: &Book, row: &[u16], r: u16, k: usize) -> u16
 }
 
 // The cell of value record r.
-fn seed_value(
-    book: &Book,
-    row: &[u16],
-    r: u16,
-    cells: &mut [u8],
-    p: Kept,
-) -> Kept
+fn seed_value(book: &Book, row: &[u16], r: u16, cells: &mut [u8], p: Kept) -> Kept
     requires sound { Sound book.now row.now }
     requires holds_is { holds book.now VALUE r ≡ true }
     ensures { Seeded cells.old p (λ v. seed book.now r) result cells.new }
@@ -55,24 +49,12 @@ fn seed_value(
         VU => keep(cells, p, UNIT, 0, 0),
         VL => keep(cells, p, LEFT, part(book, row, r, 1), 0),
         VR => keep(cells, p, RIGHT, part(book, row, r, 1), 0),
-        _ => keep(
-            cells,
-            p,
-            PAIR,
-            part(book, row, r, 1),
-            part(book, row, r, 2),
-        ),
+        _ => keep(cells, p, PAIR, part(book, row, r, 1), part(book, row, r, 2)),
     }
 }
 
 // The cell of record r, if it is a value.
-fn seed_one(
-    book: &Book,
-    row: &[u16],
-    r: u16,
-    cells: &mut [u8],
-    p: Kept,
-) -> Kept
+fn seed_one(book: &Book, row: &[u16], r: u16, cells: &mut [u8], p: Kept) -> Kept
     requires sound { Sound book.now row.now }
     requires r_in_range { r < book.now.records }
     ensures { Seeded cells.old p (seed_one book.now r) result cells.new }

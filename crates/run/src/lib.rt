@@ -11,10 +11,10 @@ ghost use Rattle.run.specs.Whole.{ended, result_of, after_read, run_of, table_of
 ghost use Rattle.run.specs.Calls.{Answered};
 ghost use Rattle.machine.specs.Machine.{Sound, Stopped, end_of, over_at};
 
-use book::record::Book;
 use crate::initial::{number_values, seed_cells};
 use book::fault::{Fault, Refusal};
 use book::read::index_book;
+use book::record::Book;
 use machine::{State, drive};
 use named::table::clear;
 use nodes::check::{Verdict, judge_table};
@@ -28,7 +28,13 @@ pub enum Outcome {
 }
 
 // RUN: the last node of a table on the unit, over lent cells. Zeros follow the cells used; after a failure or a refusal all are zero.
-pub fn run(book: &[u8], witnesses: &[u8], nodes: &[u8], count: u32, cells: &mut [u8]) -> Result<Outcome, Refusal>
+pub fn run(
+    book: &[u8],
+    witnesses: &[u8],
+    nodes: &[u8],
+    count: u32,
+    cells: &mut [u8],
+) -> Result<Outcome, Refusal>
     ensures { (result ≡ run_of book.now witnesses.now nodes.now count (length cells.old))
         × (cells.new ≡ table_of book.now witnesses.now nodes.now count (length cells.old)) }
 {

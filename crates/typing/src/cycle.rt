@@ -40,14 +40,7 @@ pub fn agree(holds: bool, r: u16) -> Checked
 }
 
 // A variable: its name's type is the declared one.
-fn variable(
-    book: &Book,
-    r: u16,
-    vain: &mut [u8],
-    scope: &[u16],
-    live: usize,
-    base: u16,
-) -> Checked
+fn variable(book: &Book, r: u16, vain: &mut [u8], scope: &[u16], live: usize, base: u16) -> Checked
     requires marked { Marked book.now.bytes book.now.index r EV }
     requires live { Live book.now.bytes book.now.index scope.now live base }
     requires vain_length { length vain.old ≡ 4096 }
@@ -211,9 +204,7 @@ fn matching(
     if !has_places(book, t, n as u32) {
         return agree(false, r);
     }
-    match arms(
-        book, r, from, n, t, doubled, memo, vain, scope, live, base,
-    ) {
+    match arms(book, r, from, n, t, doubled, memo, vain, scope, live, base) {
         Checked::Passed => expression(book, e, doubled, memo, vain, scope, live, base),
         Checked::Refused(w) => Checked::Refused(w),
     }
