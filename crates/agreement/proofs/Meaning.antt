@@ -9,6 +9,7 @@ use mathlib.Core.Path.{◌≡◌, refl, sym, ap, ◌∙◌}
 use native.Mathlib.Nat.{le_refl}
 use native.Mathlib.Omega.{arith}
 use lib.ListN.{replicate}
+use Rattle.std.specs.Prelude.{Ok, Err}
 use Rattle.simplicity.specs.Values.{Value, unit}
 use Rattle.simplicity.specs.Outcomes.{Outcome, value, failed, stuck, missing}
 use Rattle.book.specs.Faults.{fault_number}
@@ -20,7 +21,7 @@ use Rattle.book.specs.declared.fault.Refusal.{Refusal}
 use Rattle.book.proofs.Established.{answer_valid}
 use Rattle.book.specs.Text.{Text, text}
 use Rattle.nodes.specs.Given.{Given, given}
-use Rattle.nodes.specs.Nodes.{Judged, well_formed, bad_at, judge}
+use Rattle.nodes.specs.Nodes.{Judged, judge}
 use Rattle.cells.specs.Cells.{world, fails, refuses, Out, got, halt, bind}
 use Rattle.machine.specs.Run.{DEEP, run}
 use Rattle.run.specs.Whole.{seeds, ended, Result, refused, result_of, after_check, after_read, resulting, answer_of, cells_of, run_of, table_of}
@@ -38,7 +39,7 @@ tells b (got s x w) q h = rw (h.1, ← value_back w.table h.2.reads) tells_value
 tells b (halt s fails n) q h = rw h tells_failed
 tells b (halt s (refuses f) n) q h = tells_refused h
 
-module _ (g : Given) (c m : ℕ) (valid : Valid g.book.bytes g.book.index g.book.records) (well : judge g.book g.nodes c ≡ well_formed) where
+module _ (g : Given) (c m : ℕ) (valid : Valid g.book.bytes g.book.index g.book.records) (well : judge g.book g.nodes c ≡ Ok tt) where
   -- after the initial cells
   begun : (o : Out) → Seeded g.book g.book.records o → Agrees g.book [] (bind o (λ v. run DEEP g (c - 1) 0)) (meaning_of g c)
   unfolding bind meaning_of
@@ -59,7 +60,7 @@ meant b ws ns c n = meaning_of (given (text b (index_of b) n) ws ns) c
 -- READ accepts the book, which has n records, and the check accepts the table of c nodes
 pub record Accepts (b ns : List ℕ) (c n : ℕ) : Type 0 where
   pub read : read_of b ≡ Ok n
-  pub well : judge (text b (index_of b) n) ns c ≡ well_formed
+  pub well : judge (text b (index_of b) n) ns c ≡ Ok tt
 
 -- an answer beside its cells, and the meaning that came out: its value, read back; its failure; its being stuck; what is missing
 abbrev pub ComesOut : RunAnswer → List ℕ → Outcome → Type 0
@@ -133,8 +134,8 @@ module _ (b ws ns : List ℕ) (c m : ℕ) where
     where
       check : (n : ℕ) → read_of b ≡ Ok n → (j : Judged) → judge (text b (index_of b) n) ns c ≡ j
           → ((w : Refusal) → answer_of (after_check j (given (text b (index_of b) n) ws ns) c m) ≡ Err w → ⊥) → (n : ℕ) × Accepts b ns c n
-      check n r well_formed e h = (n, record { read = r; well = e })
-      check n r (bad_at p) e h = absurd (h _ refl)
+      check n r (Ok x) e h = (n, record { read = r; well = e })
+      check n r (Err p) e h = absurd (h _ refl)
 
       go : (a : results.Result ℕ Refusal) → read_of b ≡ a
           → ((w : Refusal) → answer_of (elim a [ Ok n ↦ after_read (given (text b (index_of b) n) ws ns) c m | Err w ↦ refused w ]) ≡ Err w → ⊥) → (n : ℕ) × Accepts b ns c n

@@ -8,6 +8,7 @@ use native.Mathlib.Omega.{arith}
 use borrow.Author.Tests.{eqb-true, eqb-false, ne_eqb}
 use lib.ListN.{length}
 use lib.Dec.{T, eqb, ltb, ltb→lt}
+use Rattle.std.specs.Prelude.{Ok, Err}
 use Rattle.laws.specs.Order.{by_lt}
 use Rattle.laws.specs.Table.{pick, both_left, both_right, choose, among, Every, every, ◌also◌, true_false}
 use Rattle.simplicity.specs.Terms.{Term, iden, unit, injl, injr, take, drop, comp, case, pair, assertl, assertr, fail, witness, scribe, jet}
@@ -17,7 +18,7 @@ use Rattle.named.specs.Combinators.{IDEN, UNIT, INJL, INJR, TAKE, DROP, COMP, CA
 use Rattle.cells.specs.Entries.{kind_at}
 use Rattle.book.specs.Text.{Text}
 use Rattle.nodes.specs.Given.{Given, holds}
-use Rattle.nodes.specs.Nodes.{roles_of, fits, role_at, formed, first_bad, Judged, well_formed, bad_at, judge}
+use Rattle.nodes.specs.Nodes.{roles_of, fits, role_at, formed, first_bad, Judged, judge}
 use Rattle.machine.specs.Run.{left_of, right_of}
 use Rattle.agreement.specs.Unfold.{makers, term_to, term_at}
 
@@ -119,20 +120,20 @@ good_from b ns n (suc left) e j h l = go (good_from b ns (n + 1) left) (formed b
     go more false f q = absurd (omega arith)
 
 abbrev Well : Judged → Type 0
-Well well_formed = Unit {0}
-Well (bad_at p) = ⊥
+Well (Ok x) = Unit {0}
+Well (Err p) = ⊥
 
 -- a test that would refuse the table failed, and one that accepts it passed
-went_on : (t : Bool) (p : ℕ) (j : Judged) → Well (pick t (bad_at p) j) → (t ≡ false) × Well j
+went_on : (t : Bool) (p : ℕ) (j : Judged) → Well (pick t (Err p) j) → (t ≡ false) × Well j
 went_on true p j w = absurd w
 went_on false p j w = (refl, w)
 
-accepted : (t : Bool) (p : ℕ) → Well (pick t well_formed (bad_at p)) → t ≡ true
+accepted : (t : Bool) (p : ℕ) → Well (pick t (Ok tt) (Err p)) → t ≡ true
 accepted true p w = refl
 accepted false p w = absurd w
 
 -- the check accepts a table: there is a node, and each is formed
-pub judged : (b : Text) (ns : List ℕ) (c : ℕ) → judge b ns c ≡ well_formed → (0 < c) × ((n : ℕ) → n < c → T (formed b ns n))
+pub judged : (b : Text) (ns : List ℕ) (c : ℕ) → judge b ns c ≡ Ok tt → (0 < c) × ((n : ℕ) → n < c → T (formed b ns n))
 unfolding judge
 judged b ns c e =
     let some = went_on (eqb c 0) 0 _ (subst Well (sym e) tt) in

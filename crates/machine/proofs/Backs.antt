@@ -13,8 +13,9 @@ use Rattle.book.specs.Format.{word_at}
 use Rattle.book.specs.declared.fault.Fault.TheVariants.{Witness}
 use Rattle.machine.specs.declared.State.{State}
 use Rattle.cells.specs.declared.table.Kept.{Kept}
-use Rattle.cells.specs.declared.jets.Jetted.{Jetted}
-use Rattle.cells.specs.declared.jets.Jetted.TheVariants as jetteds
+use Rattle.std.specs.Prelude.{Result, Ok, Err}
+use Rattle.cells.specs.declared.jets.JetEnd.{JetEnd}
+use Rattle.cells.specs.declared.jets.JetEnd.TheVariants as ends
 use Rattle.cells.specs.Entries.{left_at, right_at}
 use Rattle.nodes.specs.Given.{Given, typed, supplies}
 use Rattle.cells.specs.Cells.{World, refuses, Out, got, halt, deliver}
@@ -86,20 +87,20 @@ module _ (g : Given) (n x : ℕ) (w : World) (q : x ≡ left_at g.nodes n) where
     witness_refused b e = let z : typed g.book r t ≡ false = sym b ∙ e in rw (← q, ← i, ← j, lt-ltb (2 * x + 1) (length g.witnesses) a, z)
 
 -- JETS
-module _ {c c' : List ℕ} {u : ℕ} {o : Outcome} {j : Jetted} {s r : State} (d : Delivers c u o j c') where
-  pub jet_made : {p : Kept} → j ≡ jetteds.Made p → Backs s p r → Handed c u s.depth (deliver s.node o) c' r
+module _ {c c' : List ℕ} {u : ℕ} {o : Outcome} {j : Result Kept JetEnd} {s r : State} (d : Delivers c u o j c') where
+  pub jet_made : {p : Kept} → j ≡ Ok p → Backs s p r → Handed c u s.depth (deliver s.node o) c' r
   unfolding jetted
   jet_made {p} e b =
       record { same = λ g k fs hs. ap (λ (x : Out). resume g k fs x) (sym (rw e at (d.same s.node hs))) ∙ b.same g k fs c' hs; depth = b.depth; less = b.less }
 
-  pub jet_failed : j ≡ jetteds.Failed → Answers s (λ w. halt 0 (end_of 3) s.node) r → u ≡ s.used → Handed c u s.depth (deliver s.node o) c' r
+  pub jet_failed : j ≡ Err ends.Failed → Answers s (λ w. halt 0 (end_of 3) s.node) r → u ≡ s.used → Handed c u s.depth (deliver s.node o) c' r
   unfolding jetted
   jet_failed e a z = handed_as {t₁ = c'} {m' = λ w. halt 0 (end_of 3) s.node} (λ hs. sym (rw e at (d.same s.node hs))) (rw z (a.handed c'))
 
-  pub jet_stuck : j ≡ jetteds.Stuck → Answers s (λ w. halt 0 (end_of 19) s.node) r → u ≡ s.used → Handed c u s.depth (deliver s.node o) c' r
+  pub jet_stuck : j ≡ Err ends.Stuck → Answers s (λ w. halt 0 (end_of 19) s.node) r → u ≡ s.used → Handed c u s.depth (deliver s.node o) c' r
   unfolding jetted
   jet_stuck e a z = handed_as {t₁ = c'} {m' = λ w. halt 0 (end_of 19) s.node} (λ hs. sym (rw e at (d.same s.node hs))) (rw z (a.handed c'))
 
-  pub jet_unknown : j ≡ jetteds.Unknown → Answers s (λ w. halt 0 (end_of 20) s.node) r → u ≡ s.used → Handed c u s.depth (deliver s.node o) c' r
+  pub jet_unknown : j ≡ Err ends.Unknown → Answers s (λ w. halt 0 (end_of 20) s.node) r → u ≡ s.used → Handed c u s.depth (deliver s.node o) c' r
   unfolding jetted
   jet_unknown e a z = handed_as {t₁ = c'} {m' = λ w. halt 0 (end_of 20) s.node} (λ hs. sym (rw e at (d.same s.node hs))) (rw z (a.handed c'))

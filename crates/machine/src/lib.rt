@@ -13,7 +13,7 @@ ghost use Rattle.machine.specs.Machine.{Answers, Backs, Branches, Deep, Downed, 
 
 use book::record::Book;
 use book::word::word;
-use cells::jets::{Jetted, run_jet};
+use cells::jets::{JetEnd, run_jet};
 use cells::table::{Kept, LEFT, PAIR, RIGHT, from, keep, kind_at, left_at, right_at};
 use nodes::given::{entry, is_typed};
 
@@ -247,10 +247,10 @@ fn enter_jet(cells: &mut [u8], s: State, j: u16) -> State
     ensures { Handed cells.old s.used s.depth (deliver s.node (jet_on (shape_at cells.old) j s.value)) cells.new result }
 {
     match run_jet(cells, s.used, j, s.value) {
-        Jetted::Made(p) => back_kept(s, p),
-        Jetted::Failed => end_with(s, FAILED),
-        Jetted::Stuck => end_with(s, STUCK),
-        Jetted::Unknown => end_with(s, JET),
+        Ok(p) => back_kept(s, p),
+        Err(JetEnd::Failed) => end_with(s, FAILED),
+        Err(JetEnd::Stuck) => end_with(s, STUCK),
+        Err(JetEnd::Unknown) => end_with(s, JET),
     }
 }
 

@@ -11,6 +11,7 @@ use borrow.Author.Tests.{ne_eqb, eq-eqb, le-ltb}
 use lib.Dec.{T}
 use lib.ListN.{length, get_or, replicate, length-append}
 use lib.Seq.{get_or-append-add}
+use Rattle.std.specs.Prelude.{Ok}
 use Rattle.laws.specs.Table.{pick}
 use Rattle.simplicity.specs.Terms.{Term}
 use Rattle.book.specs.Read.{read_of, index_of}
@@ -22,7 +23,7 @@ use Rattle.named.proofs.Images.{cut_fits}
 use Rattle.cells.specs.Entries.{kind_at, left_at, right_at}
 use Rattle.book.specs.Text.{Text, text}
 use Rattle.nodes.specs.Given.{Given, given}
-use Rattle.nodes.specs.Nodes.{formed, first_bad, well_formed, judge}
+use Rattle.nodes.specs.Nodes.{formed, first_bad, judge}
 use Rattle.compile.specs.Lower.{lower}
 use Rattle.compile.specs.Whole.{trace_of, lowering, answer_of, lower_of, table_of}
 use Rattle.agreement.specs.Unfold.{term_at}
@@ -72,7 +73,7 @@ first_bad_lem b ns n (suc left) h =
     go false t e = absurd t
 
 -- the check accepts a table of some nodes, as long as they need, where each is formed
-well_judged : (b : Text) (ns : List ℕ) (c : ℕ) → 0 < c → c ≤ 65535 → 5 * c ≤ length ns → ((n : ℕ) → n < c → T (formed b ns n)) → judge b ns c ≡ well_formed
+well_judged : (b : Text) (ns : List ℕ) (c : ℕ) → 0 < c → c ≤ 65535 → 5 * c ≤ length ns → ((n : ℕ) → n < c → T (formed b ns n)) → judge b ns c ≡ Ok tt
 unfolding judge
 well_judged b ns c some few long each =
     rw (ne_eqb c 0 (λ e. omega arith), le-ltb 65535 c few, le-ltb (length ns / 5) c (omega arith), eq-eqb (first_bad b ns 0 c) c (first_bad_lem b ns 0 c (λ j l m. each j (omega arith)) ∙ zero-add c))

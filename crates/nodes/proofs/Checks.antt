@@ -8,8 +8,9 @@ use native.Mathlib.Omega.{arith}
 use borrow.Author.Tests.{lt-ltb, le-ltb, eq-eqb, ne_eqb}
 use lib.Dec.{T, eqb, ltb, ltb→lt, eqb→eq}
 use lib.ListN.{length}
-use Rattle.laws.specs.Table.{both, at, Rest, rest, among, every, ◌also◌, both_left, both_right}
-use Rattle.book.specs.Format.{TYPE, VALUE, VU, VL, VR, VP}
+use Rattle.std.specs.Prelude.{Ok, Err}
+use Rattle.laws.specs.Table.{both, among, every, ◌also◌, both_left, both_right}
+use Rattle.book.specs.Format.{VALUE, VU, VL, VR, VP}
 use Rattle.book.specs.Index.{mark, kind, Lies}
 use Rattle.book.specs.Valid.{Valid}
 use Rattle.book.specs.Stands.{Stands}
@@ -17,7 +18,9 @@ use Rattle.book.proofs.Standing.{stands_mark, head_lies}
 use Rattle.cells.specs.Entries.{kind_at}
 use Rattle.book.specs.Text.{Text}
 use Rattle.nodes.specs.Given.{holds}
-use Rattle.nodes.specs.Nodes.{FREE, CHILD, OFTYPE, OFVALUE, OFJET, NONE, roles, roles_of, fits, operand_at, role_at, operand_fits, formed, first_bad, bad_at, well_formed, judge}
+use Rattle.nodes.specs.Nodes.{roles, roles_of, fits, operand_at, role_at, operand_fits, formed, first_bad, judge}
+use Rattle.nodes.specs.declared.check.Role.{Role}
+use Rattle.nodes.specs.declared.check.Role.TheVariants.{Never}
 
 -- a record that is there is of the kind that its mark has
 module _ (b : Text) (kd r : ℕ) where
@@ -44,22 +47,19 @@ type_lies {b} {i} {r} s =
     (stands_mark s (λ m. among (VU ∷ VL ∷ VR ∷ VP ∷ []) m) tt tt)
     refl
 
--- past the last kind there is none
-pub no_kind : (k : ℕ) → 16 ≤ k → roles NONE NONE ≡ roles_of k
+-- a number that is no kind: 0, or past the last kind
+pub no_kind : (k : ℕ) → (0 < k → 15 < k) → roles Never Never ≡ roles_of k
 unfolding roles_of
 no_kind k h = rw (off 1 tt, off 2 tt, off 3 tt, off 4 tt, off 5 tt, off 6 tt, off 7 tt, off 8 tt, off 9 tt, off 10 tt, off 11 tt, off 12 tt, off 13 tt, off 14 tt, off 15 tt)
   where
-    off : (j : ℕ) → T (ltb j 16) → eqb k j ≡ false
-    off j t = ne_eqb k j (λ e. omega (arith, ltb→lt j 16 t))
-
--- no operand fits where the role is none
-pub fits_none : (b : Text) (ro n x : ℕ) → Rest (FREE ∷ CHILD ∷ OFTYPE ∷ OFVALUE ∷ OFJET ∷ []) ro Unit → false ≡ fits b ro n x
-unfolding fits
-fits_none b ro n x h =
-    sym (rest (at FREE true ∷ at CHILD (ltb x n) ∷ at OFTYPE (holds b TYPE x) ∷ at OFVALUE (holds b VALUE x) ∷ at OFJET (ltb x 11) ∷ []) ro false Unit h).1
+    off : (j : ℕ) → T (both (ltb 0 j) (ltb j 16)) → eqb k j ≡ false
+    off j t =
+        let u : 0 < j = ltb→lt 0 j (both_left (ltb 0 j) (ltb j 16) t) in
+        let v : j < 16 = ltb→lt j 16 (both_right (ltb 0 j) (ltb j 16) t) in
+        ne_eqb k j (λ e. let w : 15 < k = h (omega arith) in omega arith)
 
 -- an operand's test, by what was read for it
-pub operand_by : (b : Text) (ns : List ℕ) (n k : ℕ) {kd ro x : ℕ} {t u : Bool} → kd ≡ kind_at ns n → ro ≡ role_at kd k → x ≡ operand_at ns n k → t ≡ fits b ro n x → t ≡ u → operand_fits b ns n k ≡ u
+pub operand_by : (b : Text) (ns : List ℕ) (n k : ℕ) {kd x : ℕ} {ro : Role} {t u : Bool} → kd ≡ kind_at ns n → ro ≡ role_at kd k → x ≡ operand_at ns n k → t ≡ fits b ro n x → t ≡ u → operand_fits b ns n k ≡ u
 operand_by b ns n k e f g h q = rw (sym e, sym f, sym g, sym h) q
 
 -- the nodes of a table, in a book
@@ -95,25 +95,25 @@ module _ (b : Text) (ns : List ℕ) where
 
   -- the verdict, one law for each way
   module _ (c : ℕ) where
-    pub judge_none : c ≡ 0 → bad_at 0 ≡ judge b ns c
+    pub judge_none : c ≡ 0 → Err 0 ≡ judge b ns c
     unfolding judge
     judge_none e = rw (eq-eqb c 0 e)
 
     module _ (some : c ≡ 0 → ⊥) where
-      pub judge_many : 65535 < c → bad_at 65535 ≡ judge b ns c
+      pub judge_many : 65535 < c → Err 65535 ≡ judge b ns c
       unfolding judge
       judge_many h = rw (ne_eqb c 0 some, lt-ltb 65535 c h)
 
       module _ (few : c ≤ 65535) where
-        pub judge_short : length ns / 5 < c → bad_at (length ns / 5) ≡ judge b ns c
+        pub judge_short : length ns / 5 < c → Err (length ns / 5) ≡ judge b ns c
         unfolding judge
         judge_short h = rw (ne_eqb c 0 some, le-ltb 65535 c few, lt-ltb (length ns / 5) c h)
 
         module _ (long : c ≤ length ns / 5) where
-          pub judge_well : {x : ℕ} → x ≡ first_bad b ns 0 c → x ≡ c → well_formed ≡ judge b ns c
+          pub judge_well : {x : ℕ} → x ≡ first_bad b ns 0 c → x ≡ c → Ok tt ≡ judge b ns c
           unfolding judge
           judge_well e q = rw (ne_eqb c 0 some, le-ltb 65535 c few, le-ltb (length ns / 5) c long, eq-eqb (first_bad b ns 0 c) c (sym e ∙ q))
 
-          pub judge_bad : {x : ℕ} → x ≡ first_bad b ns 0 c → (x ≡ c → ⊥) → bad_at x ≡ judge b ns c
+          pub judge_bad : {x : ℕ} → x ≡ first_bad b ns 0 c → (x ≡ c → ⊥) → Err x ≡ judge b ns c
           unfolding judge
-          judge_bad e q = rw (ne_eqb c 0 some, le-ltb 65535 c few, le-ltb (length ns / 5) c long, ne_eqb (first_bad b ns 0 c) c (λ z. q (e ∙ z))) (ap bad_at e)
+          judge_bad e q = rw (ne_eqb c 0 some, le-ltb 65535 c few, le-ltb (length ns / 5) c long, ne_eqb (first_bad b ns 0 c) c (λ z. q (e ∙ z))) (ap Err e)

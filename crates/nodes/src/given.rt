@@ -12,10 +12,7 @@ pub fn is_of(book: &Book, kind: u8, r: u16) -> bool
     requires { Valid book.now.bytes book.now.index book.now.records }
     ensures { result ≡ holds book.now kind r }
 {
-    if r < book.records() {
-        return kind_of(book.mark_at(r)) == kind;
-    }
-    false
+    r < records && kind_of(book.mark_at(r)) == kind
 }
 
 // Whether r is a value record of the type whose record is t.
@@ -23,16 +20,12 @@ pub fn is_typed(book: &Book, r: u16, t: u16) -> bool
     requires { Valid book.now.bytes book.now.index book.now.records }
     ensures { result ≡ typed book.now r t }
 {
-    if is_of(book, VALUE, r) {
-        return book.field_at(r, 0) == t;
-    }
-    false
+    is_of(book, VALUE, r) && book.field_at(r, 0) == t
 }
 
 // The entry of r in a row of numbers, or 0 past its end.
 pub fn entry(row: &[u16], r: u16) -> u16
     ensures { result ≡ get_or row.now r 0 }
 {
-    let at = r as usize;
-    if at < row.len() { row[at] } else { 0 }
+    row.get(r as usize).copied().unwrap_or(0)
 }

@@ -23,11 +23,9 @@ use Rattle.machine.specs.declared.State.{State}
 use Rattle.cells.specs.declared.table.Kept.{Kept}
 use Rattle.run.specs.Whole.{RunAnswer}
 use Rattle.run.specs.declared.Outcome.TheVariants as outcomes
-use Rattle.nodes.specs.declared.check.Verdict.{Verdict}
-use Rattle.nodes.specs.declared.check.Verdict.TheVariants as verdicts
 use Rattle.book.specs.Text.{Text, text}
 use Rattle.nodes.specs.Given.{Given, given}
-use Rattle.nodes.specs.Nodes.{Judged, well_formed, bad_at, judge, verdict_of}
+use Rattle.nodes.specs.Nodes.{Judged, judge}
 use Rattle.cells.specs.Cells.{world, fails, refuses, Out, got, halt, add, bind}
 use Rattle.cells.specs.Keeping.{leads}
 use Rattle.machine.specs.Run.{DEEP, run}
@@ -90,25 +88,25 @@ module _ (g : Given) (c : ℕ) {t t₁ : List ℕ} {p : Kept} (z : t ≡ zeros (
       record { answer = b.answer ∙ ap answer_of (sym (ap result_of q ∙ result_add st.t _)); table = rw l at b.table ∙ ap (cells_of (length t)) (sym (ap result_of q ∙ result_add st.t _)) }
 
 -- AFTER READ: the check
-bad_well : {p : ℕ} → bad_at p ≡ well_formed → ⊥
-bad_well e = absurd (let z : ◌≡◌ {A = ℕ} 0 1 = ap (λ (j : Judged). elim j [ well_formed ↦ 1 | bad_at n ↦ 0 ]) e in omega arith)
+bad_well : {p : ℕ} → ◌≡◌ {A = Judged} (Err p) (Ok tt) → ⊥
+bad_well e = absurd (let z : ◌≡◌ {A = ℕ} 0 1 = ap (λ (j : Judged). elim j [ Ok x ↦ 1 | Err n ↦ 0 ]) e in omega arith)
 
 -- a table that passed has a count in range
-pub well_counts : {v : Verdict} (b : Text) (ns : List ℕ) (c : ℕ) → verdict_of v ≡ judge b ns c → v ≡ verdicts.Well → (0 < c) × (c ≤ 65535)
+pub well_counts : {v : Judged} (b : Text) (ns : List ℕ) (c : ℕ) → v ≡ judge b ns c → v ≡ Ok tt → (0 < c) × (c ≤ 65535)
 unfolding judge
-well_counts b ns c e w = go _ (eqb c 0) (ltb 65535 c) refl refl (sym e ∙ ap verdict_of w)
+well_counts b ns c e w = go _ (eqb c 0) (ltb 65535 c) refl refl (sym e ∙ w)
   where
-    go : (x : Judged) (p q : Bool) → eqb c 0 ≡ p → ltb 65535 c ≡ q → pick p (bad_at 0) (pick q (bad_at 65535) x) ≡ well_formed → (0 < c) × (c ≤ 65535)
+    go : (x : Judged) (p q : Bool) → eqb c 0 ≡ p → ltb 65535 c ≡ q → pick p (Err 0) (pick q (Err 65535) x) ≡ Ok tt → (0 < c) × (c ≤ 65535)
     go x true q a d h = absurd (bad_well h)
     go x false true a d h = absurd (bad_well h)
     go x false false a d h = let z = eqb-false c 0 a in (omega (arith, z), ltb-false 65535 c d)
 
-module _ (g : Given) (c : ℕ) (t : List ℕ) {v : Verdict} (e : verdict_of v ≡ judge g.book g.nodes c) where
-  pub read_well : {a : RunAnswer} {t' : List ℕ} → v ≡ verdicts.Well → Answered (result_of (ended g c (length t))) (length t) a t' → Answered (after_read g c (length t)) (length t) a t'
-  read_well w h = let q : judge g.book g.nodes c ≡ well_formed = sym e ∙ ap verdict_of w in record { answer = rw q h.answer; table = rw q h.table }
+module _ (g : Given) (c : ℕ) (t : List ℕ) {v : Judged} (e : v ≡ judge g.book g.nodes c) where
+  pub read_well : {a : RunAnswer} {t' : List ℕ} → v ≡ Ok tt → Answered (result_of (ended g c (length t))) (length t) a t' → Answered (after_read g c (length t)) (length t) a t'
+  read_well w h = let q : judge g.book g.nodes c ≡ Ok tt = sym e ∙ w in record { answer = rw q h.answer; table = rw q h.table }
 
-  pub read_bad : {p : ℕ} → v ≡ verdicts.BadAt p → t ≡ zeros (length t) → Answered (after_read g c (length t)) (length t) (Err (refusal faults.Nodes p)) t
-  read_bad w z = let q : judge g.book g.nodes c ≡ bad_at _ = sym e ∙ ap verdict_of w in record { answer = rw q; table = rw q z }
+  pub read_bad : {p : ℕ} → v ≡ Err p → t ≡ zeros (length t) → Answered (after_read g c (length t)) (length t) (Err (refusal faults.Nodes p)) t
+  read_bad w z = let q : judge g.book g.nodes c ≡ Err _ = sym e ∙ w in record { answer = rw q; table = rw q z }
 
 -- THE WHOLE CALL
 pub book_valid : {b i : List ℕ} {n : ℕ} → read_of b ≡ Ok n → i ≡ index_of b → Valid b i n

@@ -1,6 +1,6 @@
 -- RUN: its answer and every byte of its cells, for every list of bytes and every number.
 -- Assumes nothing.
-use Rattle.std.specs.Prelude.{ℕ, zero, suc, ◌-◌, List, [], ◌∷◌, replicate, eqb, Ok, Err}
+use Rattle.std.specs.Prelude.{ℕ, zero, suc, ◌-◌, List, [], ◌∷◌, replicate, eqb, Ok, Err, Ok, Err}
 use Rattle.laws.specs.Table.{pick, at, choose}
 use Rattle.book.specs.Format.{VALUE, VU, VL, VR}
 use Rattle.book.specs.Index.{kind, mark, field}
@@ -10,7 +10,7 @@ use Rattle.book.specs.declared.fault.Fault.TheVariants.{Nodes}
 use Rattle.book.specs.declared.fault.Refusal.{Refusal}
 use Rattle.book.specs.Text.{Text, text}
 use Rattle.nodes.specs.Given.{Given, given, cell_of}
-use Rattle.nodes.specs.Nodes.{Judged, well_formed, bad_at, judge}
+use Rattle.nodes.specs.Nodes.{Judged, judge}
 use Rattle.cells.specs.Cells.{unit_cell, left_cell, right_cell, pair_cell, World, world, fails, refuses, Out, got, halt, bind, store}
 use Rattle.machine.specs.Run.{DEEP, run}
 use Rattle.std.specs.declared.result.Result as results
@@ -55,8 +55,8 @@ result_of (halt t (refuses f) n) = refused (refusal f n)
 
 -- document 01, CHECK and the meanings: the table's check comes before the initial cells
 abbrev pub after_check : Judged → Given → ℕ → ℕ → Result
-after_check well_formed g c m = result_of (ended g c m)
-after_check (bad_at p) g c m = refused (refusal Nodes p)
+after_check (Ok x) g c m = result_of (ended g c m)
+after_check (Err p) g c m = refused (refusal Nodes p)
 
 abbrev pub after_read : Given → ℕ → ℕ → Result
 after_read g c m = after_check (judge g.book g.nodes c) g c m

@@ -17,7 +17,7 @@ use book::read::index_book;
 use book::record::Book;
 use machine::{State, drive};
 use named::table::clear;
-use nodes::check::{Verdict, judge_table};
+use nodes::check::judge_table;
 
 mod initial;
 // How a run comes out: with a value's cell, and how many cells are used; or it fails.
@@ -58,10 +58,10 @@ fn run_read(
     ensures { Answered (after_read (given book.now witnesses.now nodes.now) count (length cells.old)) (length cells.old) result cells.new }
 {
     match judge_table(book, nodes, count) {
-        Verdict::Well => run_table(book, witnesses, nodes, count, cells),
-        Verdict::BadAt(p) => Err(Refusal {
+        Ok(()) => run_table(book, witnesses, nodes, count, cells),
+        Err(place) => Err(Refusal {
             fault: Fault::Nodes,
-            place: p,
+            place,
         }),
     }
 }

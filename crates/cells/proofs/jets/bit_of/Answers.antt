@@ -7,5 +7,5 @@ use Rattle.cells.proofs.jets.bit_of.Goals as goal
 pub returns-then-kind_at-eq-UNIT : goal.returns-then-kind_at-eq-UNIT
 returns-then-kind_at-eq-UNIT c = search (side_unit, rules)
 
-pub returns : goal.returns
-returns c = search (side_other, rules)
+pub returns-else-kind_at-eq-UNIT : goal.returns-else-kind_at-eq-UNIT
+returns-else-kind_at-eq-UNIT c = search (side_other, rules)

@@ -4,14 +4,14 @@ use Rattle.cells.proofs.Words.{word_wide, fourth_width}
 use Rattle.cells.proofs.jets.word_at.Goals as goal
 
 pub returns-in-0 : goal.returns-in-0
-returns-in-0 c = word_wide c.in-0.is c.bit_at.ensures
+returns-in-0 c = word_wide c.in-0.is c.at.ensures
 
 pub returns-in-1 : goal.returns-in-1
-returns-in-1 c = word_wide c.in-1.is c.two_bits_at.ensures
+returns-in-1 c = word_wide c.in-1.is c.at-in-1.ensures
 
 pub returns-in-2 : goal.returns-in-2
-returns-in-2 c = word_wide c.in-2.is c.four_bits_at.ensures
+returns-in-2 c = word_wide c.in-2.is c.at-in-2.ensures
 
 pub returns-in_default : goal.returns-in_default
 returns-in_default c =
-    word_wide (fourth_width _ c.requires c.in_default.in_default-own.rest.0.0.1 c.in_default.in_default-own.rest.0.1 c.in_default.in_default-own.rest.1) c.byte_at.ensures
+    word_wide (fourth_width _ c.requires c.in_default.in_default-own.rest.0.0.1 c.in_default.in_default-own.rest.0.1 c.in_default.in_default-own.rest.1) c.at-in_default.ensures

@@ -17,7 +17,7 @@ pub loop-k-preserved : goal.loop-k-preserved
 loop-k-preserved c = (
   search rules,
   below_more _ _ c.loop-k.invariant.1
-      (operand_by (text _ _ _) _ _ c.loop-k.k c.kind_at-kind.ensures c.role.ensures c.operand.ensures c.fits_role.ensures c.if-not-fits_role.false),
+      (operand_by (text _ _ _) _ _ c.loop-k.k c.kind_at-kind.ensures c.role_at.ensures c.operand.ensures c.fits_role.ensures c.if-not-fits_role.false),
 )
 
 pub scan-preserved : goal.scan-preserved
@@ -34,4 +34,4 @@ pub returns-then-not-fits_role : goal.returns-then-not-fits_role
 returns-then-not-fits_role c =
     scan_stops (text _ _ _) _ _ _ c.scan.invariant.0 c.scan.invariant.1 c.if-n-count.false
     (formed_not (text _ _ _) _ _ _ c.loop-k-test.true
-    (operand_by (text _ _ _) _ _ c.loop-k.k c.kind_at-kind.ensures c.role.ensures c.operand.ensures c.fits_role.ensures c.if-not-fits_role.true))
+    (operand_by (text _ _ _) _ _ c.loop-k.k c.kind_at-kind.ensures c.role_at.ensures c.operand.ensures c.fits_role.ensures c.if-not-fits_role.true))

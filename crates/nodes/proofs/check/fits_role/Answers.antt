@@ -1,31 +1,28 @@
--- `nodes::fits_role` meets its contract: in each arm the role's test, and the law `rest` has the default.
+-- `check::fits_role` meets its contract: in each arm the role's test.
 -- Assumes nothing.
-use Rattle.book.specs.Text.{text}
 use Rattle.nodes.specs.Nodes.{fits}
-use Rattle.nodes.proofs.Checks.{fits_none}
 use Rattle.nodes.proofs.check.fits_role.Goals as goal
 
-pub returns-in-0 : goal.returns-in-0
+pub returns-in-Free : goal.returns-in-Free
 unfolding fits
-returns-in-0 c = rw c.in-0.is
+returns-in-Free c = rw c.in-Free.is
 
-pub returns-in-1 : goal.returns-in-1
+pub returns-in-Child : goal.returns-in-Child
 unfolding fits
-returns-in-1 c = rw c.in-1.is
+returns-in-Child c = rw c.in-Child.is
 
-pub returns-in-2 : goal.returns-in-2
+pub returns-in-OfType : goal.returns-in-OfType
 unfolding fits
-returns-in-2 c = rw c.in-2.is c.is_of.ensures
+returns-in-OfType c = rw c.in-OfType.is c.is_of.ensures
 
-pub returns-in-3 : goal.returns-in-3
+pub returns-in-OfValue : goal.returns-in-OfValue
 unfolding fits
-returns-in-3 c = rw c.in-3.is c.is_of-in-3.ensures
+returns-in-OfValue c = rw c.in-OfValue.is c.is_of-in-OfValue.ensures
 
-pub returns-in-4 : goal.returns-in-4
+pub returns-in-OfJet : goal.returns-in-OfJet
 unfolding fits
-returns-in-4 c = rw c.in-4.is
+returns-in-OfJet c = rw c.in-OfJet.is
 
-pub returns-in_default : goal.returns-in_default
+pub returns-in-Never : goal.returns-in-Never
 unfolding fits
-returns-in_default c =
-    fits_none c.args.book.now c.args.role c.args.n c.args.x c.in_default.in_default-own.rest
+returns-in-Never c = rw c.in-Never.is

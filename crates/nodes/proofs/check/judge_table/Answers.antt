@@ -17,6 +17,6 @@ pub returns-then-bad-count : goal.returns-then-bad-count
 returns-then-bad-count c =
     judge_well (text _ _ _) _ _ c.if-count-eq0.false c.if-count-gt65535.false c.if-present-count.false c.first_bad-bad.ensures c.if-bad-count.true
 
-pub returns : goal.returns
-returns c =
+pub returns-else-bad-count : goal.returns-else-bad-count
+returns-else-bad-count c =
     judge_bad (text _ _ _) _ _ c.if-count-eq0.false c.if-count-gt65535.false c.if-present-count.false c.first_bad-bad.ensures c.if-bad-count.false

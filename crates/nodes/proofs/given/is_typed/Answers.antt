@@ -8,9 +8,3 @@ use Rattle.nodes.proofs.given.is_typed.Goals as goal
 
 pub field_at-requires : goal.field_at-requires
 field_at-requires c = type_lies (holds_stands (text _ _ _) VALUE _ c.requires (sym c.is_of.ensures ∙ c.if-is_of.true))
-
-pub returns-then-is_of : goal.returns-then-is_of
-returns-then-is_of c = rw (sym c.is_of.ensures ∙ c.if-is_of.true, c.field_at.ensures)
-
-pub returns : goal.returns
-returns c = rw (sym c.is_of.ensures ∙ c.if-is_of.false)
