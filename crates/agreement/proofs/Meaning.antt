@@ -9,7 +9,6 @@ use mathlib.Core.Path.{◌≡◌, refl, sym, ap, ◌∙◌}
 use native.Mathlib.Nat.{le_refl}
 use native.Mathlib.Omega.{arith}
 use lib.ListN.{replicate}
-use Rattle.std.specs.Prelude.{Ok, Err}
 use Rattle.simplicity.specs.Values.{Value, unit}
 use Rattle.simplicity.specs.Outcomes.{Outcome, value, failed, stuck, missing}
 use Rattle.book.specs.Faults.{fault_number}

@@ -12,7 +12,7 @@ pub fn is_of(book: &Book, kind: u8, r: u16) -> bool
     requires { Valid book.now.bytes book.now.index book.now.records }
     ensures { result ≡ holds book.now kind r }
 {
-    r < records && kind_of(book.mark_at(r)) == kind
+    r < book.records() && kind_of(book.mark_at(r)) == kind
 }
 
 // Whether r is a value record of the type whose record is t.

@@ -1,6 +1,6 @@
 -- RUN: its answer and every byte of its cells, for every list of bytes and every number.
 -- Assumes nothing.
-use Rattle.std.specs.Prelude.{ℕ, zero, suc, ◌-◌, List, [], ◌∷◌, replicate, eqb, Ok, Err, Ok, Err}
+use Rattle.std.specs.Prelude.{ℕ, zero, suc, ◌-◌, List, [], ◌∷◌, replicate, eqb, Ok, Err}
 use Rattle.laws.specs.Table.{pick, at, choose}
 use Rattle.book.specs.Format.{VALUE, VU, VL, VR}
 use Rattle.book.specs.Index.{kind, mark, field}
