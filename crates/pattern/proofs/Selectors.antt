@@ -5,6 +5,7 @@ use mathlib.Core.List.{List, [], ◌∷◌, ◌++◌, map-append}
 use mathlib.Core.Option.{Option, some, none}
 use mathlib.Core.Path.{◌≡◌, refl, sym, ap, ◌∙◌}
 use lib.ListN.{length}
+use Rattle.std.specs.Prelude.{Some, None, Ok, Err, IsErr}
 use Rattle.array.specs.Path.{Side, path}
 use Rattle.named.specs.Trace.{bind, emit}
 use Rattle.named.specs.Combinators.{TAKE, DROP, iden, kinds, wraps, select}
@@ -13,11 +14,8 @@ use Rattle.named.specs.declared.node.Pen.{Pen}
 use Rattle.named.proofs.Runs.{bind_bind, bind_done}
 use Rattle.named.proofs.Pens.{draw_then}
 use Rattle.pattern.specs.Find.{within}
-use Rattle.pattern.specs.Seeks.{selector, Absent, Found, Fate, Seeks, NearFate, Nears}
-use Rattle.pattern.specs.declared.Sought.{Sought}
-use Rattle.pattern.specs.declared.Sought.TheVariants as answers
-use Rattle.pattern.specs.declared.Near.{Near}
-use Rattle.pattern.specs.declared.Near.TheVariants as nears
+use Rattle.pattern.specs.Seeks.{selector, Absent, Found, Sought, Near, Fate, Seeks, NearFate, Nears}
+use Rattle.pattern.specs.declared.Nested.{Nested}
 
 -- wraps one around the other
 pub wraps_more : (r : ℕ) (js ks : List ℕ) (a : ℕ) → wraps r (js ++ ks) a ≡ bind (wraps r ks a) (wraps r js)
@@ -43,56 +41,46 @@ absent e = record { is = e; table = refl }
 
 module _ {r : ℕ} {t : List ℕ} {p : Pen} {w : Option (List Side)} where
   -- no path; a path of no step
-  pub seeks_absent : {t' : List ℕ} → Absent w t t' → Seeks r t p w answers.Missing t'
+  pub seeks_absent : {t' : List ℕ} → Absent w t t' → Seeks r t p w None t'
   unfolding Fate
   seeks_absent a = record { kept = ap length a.table; fate = a }
 
-  pub seeks_missing : w ≡ none → Seeks r t p w answers.Missing t
+  pub seeks_missing : w ≡ none → Seeks r t p w None t
   seeks_missing e = seeks_absent (absent e)
 
   pub found_here : {t' : List ℕ} {q : Pen} → w ≡ some [] → Draws r t p (iden r) q t' → Found r t p w q t'
   found_here e d = record { along = []; is = e; drawn = select_none d }
 
-  pub seeks_found : {t' : List ℕ} {q : Pen} → Found r t p w q t' → Seeks r t p w (answers.Drawn q) t'
+  pub seeks_found : {t' : List ℕ} {q : Pen} → Found r t p w q t' → Seeks r t p w (Some q) t'
   unfolding Fate
   seeks_found f = record { kept = f.drawn.kept; fate = f }
 
   -- what an answer says
-  pub sought_missing : {t' : List ℕ} {s : Sought} → Seeks r t p w s t' → s ≡ answers.Missing → Absent w t t'
+  pub sought_missing : {t' : List ℕ} {s : Sought} → Seeks r t p w s t' → s ≡ None → Absent w t t'
   unfolding Fate
   sought_missing h e = rw e at h.fate
 
-  pub sought_drawn : {t' : List ℕ} {s : Sought} {q : Pen} → Seeks r t p w s t' → s ≡ answers.Drawn q → Found r t p w q t'
+  pub sought_drawn : {t' : List ℕ} {s : Sought} {q : Pen} → Seeks r t p w s t' → s ≡ Some q → Found r t p w q t'
   unfolding Fate
   sought_drawn h e = rw e at h.fate
 
   -- the same of a search that keeps no row of vain searches
-  pub nears_absent : {t' : List ℕ} → Absent w t t' → Nears r t p w nears.Missing t'
+  pub nears_sought : {t' : List ℕ} {s : Sought} → Seeks r t p w s t' → Nears r t p w (Ok s) t'
   unfolding NearFate
-  nears_absent a = record { kept = ap length a.table; fate = a }
+  nears_sought h = record { kept = h.kept; fate = h.fate }
 
-  pub nears_missing : w ≡ none → Nears r t p w nears.Missing t
-  nears_missing e = nears_absent (absent e)
-
-  pub nears_nested : {t' : List ℕ} → t' ≡ t → Nears r t p w nears.Nested t'
+  pub nears_nested : {t' : List ℕ} (n : Near) → IsErr n → t' ≡ t → Nears r t p w n t'
   unfolding NearFate
-  nears_nested e = record { kept = ap length e; fate = e }
+  nears_nested (Err e) is same = record { kept = ap length same; fate = same }
+  nears_nested (Ok s) is same = cc
 
-  pub nears_found : {t' : List ℕ} {q : Pen} → Found r t p w q t' → Nears r t p w (nears.Drawn q) t'
+  pub near_sought : {t' : List ℕ} {n : Near} {s : Sought} → Nears r t p w n t' → n ≡ Ok s → Seeks r t p w s t'
   unfolding NearFate
-  nears_found f = record { kept = f.drawn.kept; fate = f }
+  near_sought h e = record { kept = h.kept; fate = rw e at h.fate }
 
-  pub near_missing : {t' : List ℕ} {s : Near} → Nears r t p w s t' → s ≡ nears.Missing → Absent w t t'
-  unfolding NearFate
-  near_missing h e = rw e at h.fate
-
-  pub near_nested : {t' : List ℕ} {s : Near} → Nears r t p w s t' → s ≡ nears.Nested → t' ≡ t
+  pub near_nested : {t' : List ℕ} {n : Near} {e : Nested} → Nears r t p w n t' → n ≡ Err e → t' ≡ t
   unfolding NearFate
   near_nested h e = rw e at h.fate
-
-  pub near_drawn : {t' : List ℕ} {s : Near} {q : Pen} → Nears r t p w s t' → s ≡ nears.Drawn q → Found r t p w q t'
-  unfolding NearFate
-  near_drawn h e = rw e at h.fate
 
   -- more steps around what was found; those to element k of n
   pub found_on : {t₁ t₂ : List ℕ} {q s : Pen} {v : Option (List Side)} (js : List Side) (f : Found r t p v q t₁) → w ≡ some (js ++ f.along) → Draws r t₁ q (wraps r (kinds TAKE DROP js) q.root) s t₂ → Found r t p w s t₂

@@ -18,8 +18,7 @@ use Rattle.named.specs.declared.node.Stored.TheVariants as stores
 use Rattle.named.proofs.Runs.{bind_pure}
 use Rattle.named.proofs.Pens.{draw_then, draw_pure, closes, done_stop}
 use Rattle.pattern.specs.Find.{find}
-use Rattle.pattern.specs.Seeks.{Absent, Found, Seeks}
-use Rattle.pattern.specs.declared.Sought.{Sought}
+use Rattle.pattern.specs.Seeks.{Absent, Found, Sought, Seeks}
 use Rattle.pattern.proofs.Selectors.{wraps_more, found_on}
 use Rattle.scope_bindings.specs.Scope.{reach, through, lookup_from, lookup, lookup_below, fetch, bound, newest}
 use Rattle.scope_bindings.proofs.Scopes.{newest_length}

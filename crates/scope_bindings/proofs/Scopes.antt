@@ -9,7 +9,7 @@ use native.Mathlib.Omega.{arith}
 use borrow.Author.Tests.{ne_eqb, eqb-true, eqb-false}
 use lib.Dec.{eqb}
 use lib.ListN.{length, get_or, set, replicate, length-set, length-replicate}
-use lib.Seq.{get_or-set_same, get_or-set_other, ext_get_or}
+use lib.Seq.{get_or-set_same, get_or-set_other}
 use Rattle.book.specs.Format.{PATTERN, FUNCTION, FN, kind_of}
 use Rattle.book.specs.Read.{kind_at}
 use Rattle.book.specs.Index.{mark, Begins}
@@ -45,16 +45,29 @@ module _ {b i : List ℕ} {x : ℕ} where
     binds_begins (of_pattern s) = stands_begins s
     binds_begins (of_function s) = stands_begins s
 
-    pub binds_function : Binds b i x → mark b i x ≡ FN → Stands b i x FUNCTION
-    unfolding kind_at kind_of
-    binds_function (ignored e) m = absurd (some e)
-    binds_function (of_pattern s) m = absurd (let z : FUNCTION ≡ PATTERN = rw m at s.is in omega arith)
-    binds_function (of_function s) m = s
+    module _ (v : Binds b i x) (m : ℕ) (is : m ≡ mark b i x) where
+      pub binds_function : m ≡ FN → Stands b i x FUNCTION
+      unfolding kind_at kind_of
+      binds_function e = at v
+        where
+          at : Binds b i x → Stands b i x FUNCTION
+          at (ignored z) = absurd (some z)
+          at (of_pattern s) = absurd (let z : FUNCTION ≡ PATTERN = rw (sym is ∙ e) at s.is in omega arith)
+          at (of_function s) = s
 
-    pub binds_pattern : Binds b i x → (mark b i x ≡ FN → ⊥) → Stands b i x PATTERN
-    binds_pattern (ignored e) m = absurd (some e)
-    binds_pattern (of_pattern s) m = s
-    binds_pattern (of_function s) m = absurd (m (function_mark s))
+      pub binds_pattern : (m ≡ FN → ⊥) → Stands b i x PATTERN
+      binds_pattern h = at v
+        where
+          at : Binds b i x → Stands b i x PATTERN
+          at (ignored z) = absurd (some z)
+          at (of_pattern s) = s
+          at (of_function s) = absurd (h (is ∙ function_mark s))
+
+      pub marked_function : m ≡ FN → bound b i x ≡ params_pattern (params_of (fun_of b i x))
+      marked_function e = bound_function (binds_function e)
+
+      pub marked_pattern : (m ≡ FN → ⊥) → bound b i x ≡ pattern_of b i x
+      marked_pattern h = bound_pattern (binds_pattern h)
 
 module _ (b i : List ℕ) where
   -- a scope has as many patterns as the row has bindings
@@ -107,29 +120,3 @@ module _ {b i : List ℕ} {s : ScopeBindings} {x : ℕ} where
         at j o false q =
             let n : j ≡ s.count → ⊥ = eqb-false j s.count q in
             rw (get_or-set_other s.bindings s.count j x 0 n) (v.each j (omega (arith, n)))
-
--- the first k entries of a row of 256 are those of another
-pub record Copies (bs row : List ℕ) (k : ℕ) : Type 0 where
-  pub size : length row ≡ 256
-  pub low : k ≤ 256
-  pub same : (j : ℕ) → j < k → get_or row j 0 ≡ get_or bs j 0
-
-pub copies_none : (bs : List ℕ) → Copies bs (replicate 256 IGNORED) 0
-copies_none bs = record { size = length-replicate 256 IGNORED; low = omega arith; same = λ j h. absurd (omega arith) }
-
-module _ {bs row : List ℕ} {k : ℕ} (c : Copies bs row k) where
-  pub copies_next : k < 256 → Copies bs (set row k (get_or bs k 0)) (k + 1)
-  copies_next h = record {
-    size = length-set row k (get_or bs k 0) ∙ c.size;
-    low = omega arith;
-    same = λ j o. at j o (eqb j k) refl;
-  }
-    where
-      at : (j : ℕ) → j < k + 1 → (t : Bool) → eqb j k ≡ t → get_or (set row k (get_or bs k 0)) j 0 ≡ get_or bs j 0
-      at j o true q = rw (eqb-true j k q, get_or-set_same row k (get_or bs k 0) 0 (omega (arith, c.size)))
-      at j o false q =
-          let n : j ≡ k → ⊥ = eqb-false j k q in
-          get_or-set_other row k j (get_or bs k 0) 0 n ∙ c.same j (omega (arith, n))
-
-  pub copies_all : length bs ≡ 256 → 256 ≤ k → row ≡ bs
-  copies_all e h = ext_get_or 0 row bs (c.size ∙ sym e) (λ j l. c.same j (omega (arith, c.size)))

@@ -59,10 +59,6 @@ lookup_below b i bs n k x = lookup_from (n - k) x (newest b i bs k)
 abbrev pub scope_of : List ℕ → List ℕ → ScopeBindings → List Pat
 scope_of b i s = newest b i s.bindings s.count
 
--- the scope of a row that is lent, of whose entries the first n are bindings
-abbrev pub lent : List ℕ → ℕ → ScopeBindings
-lent bs n = record { bindings = bs; count = n }
-
 -- what may be bound
 pub data Binds (b i : List ℕ) (x : ℕ) : Type 0 where
   ignored : x ≡ IGNORED → Binds b i x

@@ -1,6 +1,6 @@
 -- `get_from` and `get_row` meet their contracts: by the pattern's mark; each element before k has not the name.
 -- Assumes nothing.
-use Prim.Native.Nat.{◌+◌, ◌*◌, ◌-◌}
+use Prim.Native.Nat.{◌+◌, ◌*◌}
 use Rattle.book.specs.Index.{field}
 use Rattle.book.specs.Tree.{pattern_of}
 use Rattle.pattern.specs.Find.{find}
@@ -17,6 +17,3 @@ decreases-get_row l = 2 * l.p
 abbrev pub invariant-get_row-loop-k : goal.invariant-get_row-loop-k
 invariant-get_row-loop-k l =
     Memo l.book.bytes l.book.index l.name l.missing × Passes (find l.name (pattern_of l.book.bytes l.book.index l.p)) l.name 1 (λ j. pattern_of l.book.bytes l.book.index (field l.book.bytes l.book.index l.p j)) 1 l.n l.k l.initial.nodes l.nodes
-
-abbrev pub decreases-get_row-loop-k : goal.decreases-get_row-loop-k
-decreases-get_row-loop-k l = l.n - l.k

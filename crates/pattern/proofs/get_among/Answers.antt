@@ -2,8 +2,8 @@
 -- Assumes nothing.
 use mathlib.Core.Path.{refl, ◌∙◌}
 use native.Mathlib.Omega.{arith}
-use Rattle.pattern.proofs.Selectors.{nears_absent, nears_nested, nears_found, near_missing, near_nested, near_drawn}
-use Rattle.pattern.proofs.Passes.{passes_none, passes_kept, passes_all, passes_next, passes_found}
+use Rattle.pattern.proofs.Selectors.{seeks_absent, seeks_found, sought_missing, sought_drawn, nears_sought, nears_nested, near_sought, near_nested}
+use Rattle.pattern.proofs.Passes.{passes_none, passes_all, passes_next, passes_found}
 use Rattle.pattern.proofs.Records.{finds_row, row_count, row_lies, row_part, row_most}
 use borrow.Author.Rules.{rules}
 use Rattle.pattern.proofs.get_among.Goals as goal
@@ -21,25 +21,16 @@ pub get_single-requires : goal.get_single-requires
 get_single-requires c =
     (row_part c.requires.stands _ _ _ c.requires.mark_is c.field_at-n.ensures c.loop-k-test.true refl _ c.field_at-part.ensures).0
 
-pub shape_of-nodes-in-Drawn : goal.shape_of-nodes-in-Drawn
-shape_of-nodes-in-Drawn c = c.along.ensures.kept ∙ c.get_single.ensures.kept ∙ passes_kept c.loop-k.invariant
+pub returns-in_err-inner : goal.returns-in_err-inner
+returns-in_err-inner c = nears_nested _ c.from_residual.ensures.0 (near_nested c.get_single.ensures c.in_err-inner.was ∙ c.loop-k.invariant.table)
 
-pub returns-in-Drawn : goal.returns-in-Drawn
-returns-in-Drawn c =
-    nears_found (passes_found c.loop-k.invariant _ (omega arith) (omega arith) (near_drawn (rw c.field_at-part.ensures at c.get_single.ensures) (search rules)) c.along.ensures)
-
-pub shape_of-nodes-in-Nested : goal.shape_of-nodes-in-Nested
-shape_of-nodes-in-Nested c = c.get_single.ensures.kept ∙ passes_kept c.loop-k.invariant
-
-pub returns-in-Nested : goal.returns-in-Nested
-returns-in-Nested c = nears_nested (near_nested c.get_single.ensures (search rules) ∙ c.loop-k.invariant.table)
+pub returns-in-Some : goal.returns-in-Some
+returns-in-Some c =
+    nears_sought (seeks_found (passes_found c.loop-k.invariant _ (omega arith) (omega arith) (sought_drawn (near_sought (rw c.field_at-part.ensures at c.get_single.ensures) c.in_ok-inner.was) c.in-Some.is) c.along.ensures))
 
 pub loop-k-preserved : goal.loop-k-preserved
 loop-k-preserved c =
-    passes_next c.loop-k.invariant _ (omega arith) (omega arith) _ (omega arith) (near_missing (rw c.field_at-part.ensures at c.get_single.ensures) (search rules))
-
-pub shape_of-nodes : goal.shape_of-nodes
-shape_of-nodes c = passes_kept c.loop-k.invariant
+    passes_next c.loop-k.invariant _ (omega arith) (omega arith) _ (omega arith) (sought_missing (near_sought (rw c.field_at-part.ensures at c.get_single.ensures) c.in_ok-inner.was) (search rules))
 
 pub returns : goal.returns
-returns c = nears_absent (passes_all c.loop-k.invariant (omega arith))
+returns c = nears_sought (seeks_absent (passes_all c.loop-k.invariant (omega arith)))

@@ -1,6 +1,5 @@
 -- `get_among` meets its contract: each element before k is no row and has not the name.
 -- Assumes nothing.
-use Prim.Native.Nat.{◌-◌}
 use Rattle.book.specs.Index.{field}
 use Rattle.book.specs.Tree.{pattern_of}
 use Rattle.pattern.specs.Find.{find}
@@ -10,6 +9,3 @@ use Rattle.pattern.proofs.get_among.Given as goal
 abbrev pub invariant-loop-k : goal.invariant-loop-k
 invariant-loop-k l =
     Passes (find l.name (pattern_of l.book.bytes l.book.index l.p)) l.name 1 (λ j. pattern_of l.book.bytes l.book.index (field l.book.bytes l.book.index l.p j)) 1 l.n l.k l.initial.nodes l.nodes
-
-abbrev pub decreases-loop-k : goal.decreases-loop-k
-decreases-loop-k l = l.n - l.k

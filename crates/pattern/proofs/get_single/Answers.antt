@@ -1,27 +1,28 @@
 -- `get_single` meets its contract: by the pattern's mark.
 -- Assumes nothing.
 use mathlib.Core.Path.{refl}
+use native.Mathlib.Omega.{arith}
 use Rattle.book.proofs.Standing.{stands_begins}
-use Rattle.pattern.proofs.Selectors.{nears_missing, nears_nested, nears_found}
+use Rattle.pattern.proofs.Selectors.{seeks_missing, seeks_found, nears_sought, nears_nested}
 use Rattle.pattern.proofs.Records.{name_lies, name_found, name_missing, all_missing}
 use Rattle.pattern.proofs.get_single.Goals as goal
 
-pub mark_at-mark-requires : goal.mark_at-mark-requires
-mark_at-mark-requires c = search stands_begins
+pub mark_at-requires : goal.mark_at-requires
+mark_at-requires c = search stands_begins
 
-pub returns-then-mark-eq-PT : goal.returns-then-mark-eq-PT
-returns-then-mark-eq-PT c = nears_nested refl
+pub returns-in-10 : goal.returns-in-10
+returns-in-10 c = nears_nested _ refl refl
 
 pub field_at-requires : goal.field_at-requires
-field_at-requires c = name_lies c.requires _ c.mark_at-mark.ensures c.if-mark-eq-PI.true
+field_at-requires c = name_lies c.requires _ c.mark_at.ensures c.in-8.is
 
-pub returns-then-field_at-name : goal.returns-then-field_at-name
-returns-then-field_at-name c =
-    nears_found (name_found c.requires _ c.mark_at-mark.ensures _ c.if-mark-eq-PI.true c.field_at.ensures c.if-field_at-name.true c.put.ensures)
+pub returns-in-8 : goal.returns-in-8
+returns-in-8 c =
+    nears_sought (seeks_found (name_found c.requires _ c.mark_at.ensures _ c.in-8.is c.field_at.ensures c.if-field_at-name.true c.put.ensures))
 
-pub returns-else-field_at-name : goal.returns-else-field_at-name
-returns-else-field_at-name c =
-    nears_missing (name_missing c.requires _ c.mark_at-mark.ensures _ c.if-mark-eq-PI.true c.field_at.ensures c.if-field_at-name.false)
+pub returns-in_default : goal.returns-in_default
+returns-in_default c =
+    nears_sought (seeks_missing (name_missing c.requires _ c.mark_at.ensures _ c.in-8.is c.field_at.ensures c.if-field_at-name.false))
 
-pub returns-else-mark-eq-PI : goal.returns-else-mark-eq-PI
-returns-else-mark-eq-PI c = nears_missing (all_missing c.requires _ c.mark_at-mark.ensures _ c.if-mark-eq-PT.false c.if-mark-eq-PI.false)
+pub returns-in_default-2 : goal.returns-in_default-2
+returns-in_default-2 c = nears_sought (seeks_missing (all_missing c.requires _ c.mark_at.ensures _ (λ e. omega arith) (λ e. omega arith)))

@@ -1,15 +1,14 @@
 -- `drops` meets its contract: one drop more than before.
 -- Assumes nothing.
-use native.Mathlib.Omega.{arith}
 use Rattle.scope_bindings.proofs.Reaches.{drops_none, drops_next, drops_all}
 use borrow.Author.Rules.{rules}
 use Rattle.scope_bindings.proofs.drops.Goals as goal
 
 pub loop-k-init : goal.loop-k-init
-loop-k-init c = (omega arith, drops_none)
+loop-k-init c = drops_none
 
 pub loop-k-preserved : goal.loop-k-preserved
-loop-k-preserved c = (omega arith, search (drops_next, rules))
+loop-k-preserved c = search (drops_next, rules)
 
 pub returns : goal.returns
 returns c = search (drops_all, rules)

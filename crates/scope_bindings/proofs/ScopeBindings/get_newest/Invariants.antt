@@ -1,0 +1,10 @@
+-- `get_newest` meets its contract: the bindings from `at` on have not the name.
+-- Assumes nothing.
+use Rattle.pattern.specs.Seeks.{Memo}
+use Rattle.scope_bindings.specs.Scope.{lookup_below}
+use Rattle.scope_bindings.proofs.Reaches.{Misses}
+use Rattle.scope_bindings.proofs.ScopeBindings.get_newest.Given as goal
+
+abbrev pub invariant-loop-at : goal.invariant-loop-at
+invariant-loop-at l =
+    Memo l.book.bytes l.book.index l.name l.missing × Misses (lookup_below l.book.bytes l.book.index l.self.bindings l.self.count l.from l.name) l.book.bytes l.book.index l.self.bindings l.self.count l.name l.at l.initial.nodes l.nodes
