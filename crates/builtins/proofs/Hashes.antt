@@ -1,11 +1,11 @@
 -- Laws of the hash of a row: none, one word, and two parts.
 -- Assumes nothing.
-use Prim.Native.Nat.{ℕ, ◌+◌, ◌-◌, ◌≤◌, ◌<◌}
+use Prim.Native.Nat.{ℕ, ◌+◌, ◌≤◌, ◌<◌}
 use mathlib.Core.Path.{◌≡◌}
 use mathlib.Core.List.{List, [], ◌∷◌, map}
 use native.Mathlib.Omega.{arith}
 use lib.ListN.{length, get_or, take, drop}
-use lib.Seq.{drop-cons, take-take}
+use lib.Seq.{get_or-take, get_or-drop}
 use Rattle.laws.specs.Rows.{map_length, map_take, map_drop}
 use Rattle.array.specs.Split.{split_of}
 use Rattle.array.proofs.Rows.{row_none, row_one, row_step}
@@ -14,7 +14,6 @@ use Rattle.named.specs.Combinators.{TAKE, jet, select, joined}
 use Rattle.named.specs.Draws.{Draws}
 use Rattle.named.specs.declared.node.Pen.{Pen}
 use Rattle.named.proofs.Pens.{draw_then}
-use Rattle.named.proofs.Builds.{part, part_length, part_drop}
 use Rattle.builtins.specs.RawHash.{add_both, add_row, Widths}
 
 module _ (r : ℕ) where
@@ -30,22 +29,25 @@ module _ (r : ℕ) where
   unfolding add_row
   add_parts ws h = rw (row_step (select r (TAKE ∷ [])) (joined (add_both r)) (map (λ w. jet r (add_of w)) ws) (rw map_length h), map_length, map_take, map_drop)
 
--- a part of the widths
-module _ {r : ℕ} {t : List ℕ} {p : Pen} (from : ℕ) (ws : List ℕ) where
-  pub add_none : {t₁ : List ℕ} {q : Pen} (n : ℕ) → n ≡ 0 → Draws r t p (select r (TAKE ∷ [])) q t₁ → Draws r t p (add_row r (part from n ws)) q t₁
-  add_none n e d = rw (e, add_empty r) d
+-- widths by their length
+module _ {r : ℕ} {t : List ℕ} {p : Pen} where
+  pub add_none : {t₁ : List ℕ} {q : Pen} (ws : List ℕ) → length ws < 1 → Draws r t p (select r (TAKE ∷ [])) q t₁ → Draws r t p (add_row r ws) q t₁
+  add_none [] h d = rw (add_empty r) d
+  add_none (w ∷ ws) h d = absurd (omega arith)
 
-  pub add_one : {t₁ : List ℕ} {q : Pen} (n j : ℕ) → n ≡ 1 → from + n ≤ length ws → j ≡ add_of (get_or ws from 0) → Draws r t p (jet r j) q t₁ → Draws r t p (add_row r (part from n ws)) q t₁
-  add_one n j e h a d = rw (e, drop-cons ws from 0 (omega arith), add_word r (get_or ws from 0), ← a) d
+  pub add_one : {t₁ : List ℕ} {q : Pen} (ws : List ℕ) {j : ℕ} → 1 ≤ length ws → length ws < 2 → j ≡ add_of (get_or ws 0 0) → Draws r t p (jet r j) q t₁ → Draws r t p (add_row r ws) q t₁
+  add_one [] h l a d = absurd (omega arith)
+  add_one (w ∷ []) h l a d = rw (add_word r w, ← a) d
+  add_one (w ∷ v ∷ ws) h l a d = absurd (omega arith)
 
-  pub add_more : {t₁ t₂ t₃ : List ℕ} {q s v : Pen} (n c : ℕ) → from + n ≤ length ws → 2 ≤ n → c ≡ split_of n → c < n → Draws r t p (add_row r (part from c ws)) q t₁ → Draws r t₁ q (add_row r (part (from + c) (n - c) ws)) s t₂ → Draws r t₂ s (add_both r q.root s.root) v t₃ → Draws r t p (add_row r (part from n ws)) v t₃
-  add_more n c h two e l d f g =
-      let len : length (part from n ws) ≡ n = part_length from n ws h in
-      let left : take c (part from n ws) ≡ part from c ws = take-take c n (drop from ws) (omega arith) in
-      let right : drop c (part from n ws) ≡ part (from + c) (n - c) ws = part_drop from n c ws (omega arith) in
-      rw (add_parts r (part from n ws) (rw len two), len, ← e, left, right)
-      (draw_then _ d (draw_then _ f g))
+  -- two or more: the parts that they split into, and then both
+  pub add_more : {t₁ t₂ t₃ : List ℕ} {q s v : Pen} {c : ℕ} {ls gs : List ℕ} (ws : List ℕ) → 2 ≤ length ws → c ≡ split_of (length ws) → ls ≡ take c ws → gs ≡ drop c ws → Draws r t p (add_row r ls) q t₁ → Draws r t₁ q (add_row r gs) s t₂ → Draws r t₂ s (add_both r q.root s.root) v t₃ → Draws r t p (add_row r ws) v t₃
+  add_more ws two e l g d f o = rw (add_parts r ws two, ← e, ← l, ← g) (draw_then _ d (draw_then _ f o))
 
--- fewer of them are hash widths too
-pub widths_fewer : (n m : ℕ) (ws : List ℕ) → m ≤ n → Widths n ws → Widths m ws
-widths_fewer n m ws h w = record { each = λ k l. w.each k (omega arith) }
+-- both parts of a row of hash widths are such a row
+module _ {ws ls : List ℕ} (c : ℕ) (w : Widths (length ws) ws) where
+  pub widths_left : ls ≡ take c ws → length ls ≡ c → c ≤ length ws → Widths (length ls) ls
+  widths_left e n h = record { each = λ k l. rw (e, get_or-take c ws k 0 (omega arith)) (w.each k (omega arith)) }
+
+  pub widths_right : ls ≡ drop c ws → length ls + c ≡ length ws → Widths (length ls) ls
+  widths_right e n = record { each = λ k l. rw (e, get_or-drop c ws k 0) (w.each (c + k) (omega arith)) }

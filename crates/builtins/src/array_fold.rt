@@ -15,7 +15,7 @@ pub fn array_fold_nodes(size: u16) -> u16
     ensures { FoldNodes size result }
 {
     let n = size as u32;
-    (12 * (top(n) + u32::count_ones(n) - 1)) as u16
+    (12 * (top(n) + n.count_ones() - 1)) as u16
 }
 
 // Two folds, one after the other.
@@ -41,11 +41,7 @@ fn tree_fold(nodes: &mut [u8], place: u16, pen: Pen, powers: &[u16], n: u32) -> 
     let right = powers[most as usize];
     let rest = n - (1 << most);
     if rest == 0 {
-        return Pen {
-            next: pen.next,
-            root: right,
-            full: pen.full,
-        };
+        return Pen { root: right, ..pen };
     }
     let left = tree_fold(nodes, place, pen, powers, rest);
     f_array_fold(nodes, place, left, left.root, right)
@@ -55,14 +51,7 @@ fn tree_fold(nodes: &mut [u8], place: u16, pen: Pen, powers: &[u16], n: u32) -> 
 fn room_left(bytes: usize, next: u16) -> usize
     ensures { result ≡ room bytes - next }
 {
-    let here = next as usize;
-    if 65535 <= bytes / 5 {
-        return 65535 - here;
-    }
-    if bytes / 5 < here {
-        return 0;
-    }
-    bytes / 5 - here
+    (bytes / 5).min(65535).saturating_sub(next as usize)
 }
 
 // Folds an array of 1 to 256 elements. Where the table has no room for the whole fold, none of it is begun.
@@ -71,20 +60,14 @@ pub fn array_fold(nodes: &mut [u8], place: u16, pen: Pen, size: u16, f: u16) -> 
     ensures { Draws place nodes.old pen (array_fold place size f) result nodes.new }
 {
     if room_left(nodes.len(), pen.next) < array_fold_nodes(size) as usize {
-        return Pen {
-            next: pen.next,
-            root: pen.root,
-            full: true,
-        };
+        return Pen { full: true, ..pen };
     }
     let most = top(size as u32) as usize;
     let mut powers = [f; 9];
     let mut at = pen;
-    let mut k = 0;
-    while k < most {
+    for k in 0..most {
         at = f_array_fold(nodes, place, at, powers[k], powers[k]);
-        k += 1;
-        powers[k] = at.root;
+        powers[k + 1] = at.root;
     }
     tree_fold(nodes, place, at, &powers, size as u32)
 }

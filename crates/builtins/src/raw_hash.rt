@@ -1,5 +1,5 @@
 // The hash of a row of words. O is left, I is right.
-ghost use Rattle.std.specs.Prelude.{◌+◌, ◌≤◌, length, take, drop};
+ghost use Rattle.std.specs.Prelude.{◌≤◌, length};
 ghost use Rattle.named.specs.Draws.{Draws};
 ghost use Rattle.builtins.specs.RawHash.{add_both, add_row, raw_hash, Widths};
 
@@ -28,43 +28,37 @@ fn add_both(nodes: &mut [u8], place: u16, pen: Pen, left: u16, right: u16) -> Pe
 }
 
 // From a context and a part of the row to the context with that part added.
-fn add_tuple(
-    nodes: &mut [u8],
-    place: u16,
-    pen: Pen,
-    widths: &[u16],
-    from: usize,
-    count: usize,
-) -> Pen
-    requires { (from + count ≤ length widths.now) × ((count ≤ 256) × (Widths (from + count) widths.now)) }
-    ensures { Draws place nodes.old pen (add_row place (take count (drop from widths.now))) result nodes.new }
+fn add_tuple(nodes: &mut [u8], place: u16, pen: Pen, widths: &[u16]) -> Pen
+    requires { (length widths.now ≤ 256) × (Widths (length widths.now) widths.now) }
+    ensures { Draws place nodes.old pen (add_row place widths.now) result nodes.new }
 {
-    if count == 0 {
-        let o = [TAKE];
-        return select(nodes, place, pen, &o);
+    match widths {
+        [] => {
+            let o = [TAKE];
+            select(nodes, place, pen, &o)
+        }
+        [width] => put(nodes, place, pen, JET, add_jet(*width), 0),
+        _ => {
+            let (first, second) = widths.split_at(split(widths.len() as u32) as usize);
+            let left = add_tuple(nodes, place, pen, first);
+            let right = add_tuple(nodes, place, left, second);
+            add_both(nodes, place, right, left.root, right.root)
+        }
     }
-    if count == 1 {
-        return put(nodes, place, pen, JET, add_jet(widths[from]), 0);
-    }
-    let s = split(count as u32) as usize;
-    let left = add_tuple(nodes, place, pen, widths, from, s);
-    let right = add_tuple(nodes, place, left, widths, from + s, count - s);
-    add_both(nodes, place, right, left.root, right.root)
 }
 
-// Hashes the words of the first widths.
-pub fn raw_hash(nodes: &mut [u8], place: u16, pen: Pen, widths: &[u16], count: usize) -> Pen
-    requires count_fits { count ≤ length widths.now }
-    requires count_in_range { count ≤ 256 }
-    requires widths { Widths count widths.now }
-    ensures { Draws place nodes.old pen (raw_hash place (take count widths.now)) result nodes.new }
+// Hashes words of these widths.
+pub fn raw_hash(nodes: &mut [u8], place: u16, pen: Pen, widths: &[u16]) -> Pen
+    requires count_in_range { length widths.now ≤ 256 }
+    requires widths { Widths (length widths.now) widths.now }
+    ensures { Draws place nodes.old pen (raw_hash place widths.now) result nodes.new }
 {
     let unit = put(nodes, place, pen, UNIT, 0, 0);
     let init = put(nodes, place, unit, JET, HASH_INIT, 0);
     let fresh = put(nodes, place, init, COMP, unit.root, init.root);
     let words = put(nodes, place, fresh, IDEN, 0, 0);
     let input = put(nodes, place, words, PAIR, fresh.root, words.root);
-    let adds = add_tuple(nodes, place, input, widths, 0, count);
+    let adds = add_tuple(nodes, place, input, widths);
     let full = put(nodes, place, adds, COMP, input.root, adds.root);
     let end = put(nodes, place, full, JET, HASH_END, 0);
     put(nodes, place, end, COMP, full.root, end.root)

@@ -8,7 +8,7 @@ ghost use Rattle.book.specs.Stands.{Stands};
 ghost use Rattle.book.specs.Tree.{expr_of, pattern_of, fun_of};
 ghost use Rattle.named.specs.Draws.{Done, Fills};
 ghost use Rattle.recipes.specs.Calls.{paired};
-ghost use Rattle.scope_bindings.specs.Scope.{variable, scope_of, lent, ScopeStands};
+ghost use Rattle.scope_bindings.specs.Scope.{variable, scope_of, ScopeStands};
 ghost use Rattle.parts.specs.Parts.{Marked, Spanned, row_marks, is_call};
 ghost use Rattle.compile.specs.Lower.{binding_at, binding, lower, statements, body};
 ghost use Rattle.compile.specs.Cycle.{element_run, elements_run, row_run, body_run, complete_run, call_run, second_run, begin_run, stmts_of, Enters, InSpan};
@@ -23,52 +23,44 @@ use parts::part::{
 };
 use parts::view::{Span, arm_at, is_call, is_functional, span_of};
 use recipes::calls::paired;
-use scope_bindings::{ScopeBindings, copied, from_root, get, insert};
+use scope_bindings::ScopeBindings;
 
-// The expression of record r, in a scope that is lent: its row, and how many of its entries are bindings.
+// The expression of record r, in a scope that is lent.
 #[cycle(lowering)]
 pub fn expression(
     book: &Book,
     symbols: bool,
     r: u16,
-    bindings: &[u16],
-    count: usize,
+    scope: &ScopeBindings,
     nodes: &mut [u8],
     next: u16,
 ) -> Stored
-    requires { (Stands book.now.bytes book.now.index r EXPRESSION) × (ScopeStands book.now.bytes book.now.index (lent bindings.now count)) }
-    ensures { Done nodes.old next (lower symbols (expr_of book.now.bytes book.now.index r) (scope_of book.now.bytes book.now.index (lent bindings.now count))) result nodes.new }
+    requires { (Stands book.now.bytes book.now.index r EXPRESSION) × (ScopeStands book.now.bytes book.now.index scope.now) }
+    ensures { Done nodes.old next (lower symbols (expr_of book.now.bytes book.now.index r) (scope_of book.now.bytes book.now.index scope.now)) result nodes.new }
 {
     let m = book.mark_at(r);
     match m {
         EC => constant(book, r, nodes, next),
         EW => witness(book, r, nodes, next),
-        EV => variable(book, r, bindings, count, nodes, next),
-        EB => block(book, symbols, r, bindings, count, nodes, next),
-        EM => two_arms(book, symbols, r, bindings, count, nodes, next),
+        EV => variable(book, r, scope, nodes, next),
+        EB => block(book, symbols, r, scope, nodes, next),
+        EM => two_arms(book, symbols, r, scope, nodes, next),
         CK => {
             let e = book.field_at(r, 1);
-            expression(book, symbols, e, bindings, count, nodes, next)
+            expression(book, symbols, e, scope, nodes, next)
         }
-        _ => from_row(book, symbols, r, m, bindings, count, nodes, next),
+        _ => from_row(book, symbols, r, m, scope, nodes, next),
     }
 }
 
 // A variable: the selector of its name.
-fn variable(
-    book: &Book,
-    r: u16,
-    bindings: &[u16],
-    count: usize,
-    nodes: &mut [u8],
-    next: u16,
-) -> Stored
+fn variable(book: &Book, r: u16, scope: &ScopeBindings, nodes: &mut [u8], next: u16) -> Stored
     requires marked { Marked book.now.bytes book.now.index r EV }
-    requires scope_stands { ScopeStands book.now.bytes book.now.index (lent bindings.now count) }
-    ensures { Done nodes.old next (variable r (field book.now.bytes book.now.index r 1) (scope_of book.now.bytes book.now.index (lent bindings.now count))) result nodes.new }
+    requires scope_stands { ScopeStands book.now.bytes book.now.index scope.now }
+    ensures { Done nodes.old next (variable r (field book.now.bytes book.now.index r 1) (scope_of book.now.bytes book.now.index scope.now)) result nodes.new }
 {
     let name = book.field_at(r, 1);
-    get(book, bindings, count, name, nodes, r, next)
+    scope.get(book, name, nodes, r, next)
 }
 
 // An expression that has a row of elements: the row, and then what its mark makes of it.
@@ -78,18 +70,15 @@ fn from_row(
     symbols: bool,
     r: u16,
     m: u8,
-    bindings: &[u16],
-    count: usize,
+    scope: &ScopeBindings,
     nodes: &mut [u8],
     next: u16,
 ) -> Stored
-    requires { (Marked book.now.bytes book.now.index r m) × ((ScopeStands book.now.bytes book.now.index (lent bindings.now count)) × (T (among row_marks m))) }
-    ensures { Done nodes.old next (lower symbols (expr_of book.now.bytes book.now.index r) (scope_of book.now.bytes book.now.index (lent bindings.now count))) result nodes.new }
+    requires { (Marked book.now.bytes book.now.index r m) × ((ScopeStands book.now.bytes book.now.index scope.now) × (T (among row_marks m))) }
+    ensures { Done nodes.old next (lower symbols (expr_of book.now.bytes book.now.index r) (scope_of book.now.bytes book.now.index scope.now)) result nodes.new }
 {
-    match row(book, symbols, r, m, bindings, count, nodes, next) {
-        Stored::Node { root: a, next: n } => {
-            complete(book, symbols, r, m, a, bindings, count, nodes, n)
-        }
+    match row(book, symbols, r, m, scope, nodes, next) {
+        Stored::Node { root: a, next: n } => { complete(book, symbols, r, m, a, scope, nodes, n) }
         Stored::Refused(w) => Stored::Refused(w),
     }
 }
@@ -101,19 +90,16 @@ fn row(
     symbols: bool,
     r: u16,
     m: u8,
-    bindings: &[u16],
-    count: usize,
+    scope: &ScopeBindings,
     nodes: &mut [u8],
     next: u16,
 ) -> Stored
-    requires { (Marked book.now.bytes book.now.index r m) × ((ScopeStands book.now.bytes book.now.index (lent bindings.now count)) × (T (among row_marks m))) }
-    ensures { Done nodes.old next (row_run symbols book.now.bytes book.now.index r m (scope_of book.now.bytes book.now.index (lent bindings.now count))) result nodes.new }
+    requires { (Marked book.now.bytes book.now.index r m) × ((ScopeStands book.now.bytes book.now.index scope.now) × (T (among row_marks m))) }
+    ensures { Done nodes.old next (row_run symbols book.now.bytes book.now.index r m (scope_of book.now.bytes book.now.index scope.now)) result nodes.new }
 {
     let span = span_of(book, r, m);
     let mut roots = [0u16; 256];
-    match elements(
-        book, symbols, r, m, span, bindings, count, &mut roots, nodes, next,
-    ) {
+    match elements(book, symbols, r, m, span, scope, &mut roots, nodes, next) {
         Filled::To(n) => gather(book, r, m, &roots, span.count, nodes, n),
         Filled::Refused(w) => Stored::Refused(w),
     }
@@ -127,21 +113,20 @@ fn elements(
     r: u16,
     m: u8,
     span: Span,
-    bindings: &[u16],
-    live: usize,
+    scope: &ScopeBindings,
     roots: &mut [u16],
     nodes: &mut [u8],
     next: u16,
 ) -> Filled
-    requires { (Marked book.now.bytes book.now.index r m) × ((ScopeStands book.now.bytes book.now.index (lent bindings.now live)) × ((T (among row_marks m)) × ((Spanned book.now.bytes book.now.index r m span) × (256 ≤ length roots.old)))) }
-    ensures { (length roots.new ≡ length roots.old) × (Fills nodes.old next (elements_run symbols book.now.bytes book.now.index r m (scope_of book.now.bytes book.now.index (lent bindings.now live)) span.stride span.from span.count) result (take span.count roots.new) nodes.new) }
+    requires { (Marked book.now.bytes book.now.index r m) × ((ScopeStands book.now.bytes book.now.index scope.now) × ((T (among row_marks m)) × ((Spanned book.now.bytes book.now.index r m span) × (256 ≤ length roots.old)))) }
+    ensures { (length roots.new ≡ length roots.old) × (Fills nodes.old next (elements_run symbols book.now.bytes book.now.index r m (scope_of book.now.bytes book.now.index scope.now) span.stride span.from span.count) result (take span.count roots.new) nodes.new) }
 {
     let count = span.count;
     let mut at = next;
     let mut k: usize = 0;
     while k < count {
         let j = span.from + span.stride * k;
-        match element(book, symbols, r, m, j, bindings, live, nodes, at) {
+        match element(book, symbols, r, m, j, scope, nodes, at) {
             Stored::Node { root: a, next: n } => {
                 roots[k] = a;
                 at = n;
@@ -163,22 +148,19 @@ fn element(
     r: u16,
     m: u8,
     j: usize,
-    bindings: &[u16],
-    count: usize,
+    scope: &ScopeBindings,
     nodes: &mut [u8],
     next: u16,
 ) -> Stored
-    requires { (Marked book.now.bytes book.now.index r m) × ((ScopeStands book.now.bytes book.now.index (lent bindings.now count)) × (InSpan book.now.bytes book.now.index r m j)) }
-    ensures { Done nodes.old next (element_run symbols book.now.bytes book.now.index r m (scope_of book.now.bytes book.now.index (lent bindings.now count)) j) result nodes.new }
+    requires { (Marked book.now.bytes book.now.index r m) × ((ScopeStands book.now.bytes book.now.index scope.now) × (InSpan book.now.bytes book.now.index r m j)) }
+    ensures { Done nodes.old next (element_run symbols book.now.bytes book.now.index r m (scope_of book.now.bytes book.now.index scope.now) j) result nodes.new }
 {
     if m == EH {
         let a = arm_at(book, r, j - 1);
-        return arm(
-            book, symbols, r, a.pattern, a.body, bindings, count, nodes, next,
-        );
+        return arm(book, symbols, r, a.pattern, a.body, scope, nodes, next);
     }
     let e = book.field_at(r, j);
-    expression(book, symbols, e, bindings, count, nodes, next)
+    expression(book, symbols, e, scope, nodes, next)
 }
 
 // An arm of a match: its expression, where its pattern is bound.
@@ -189,22 +171,21 @@ fn arm(
     r: u16,
     pattern: u16,
     e: u16,
-    bindings: &[u16],
-    count: usize,
+    scope: &ScopeBindings,
     nodes: &mut [u8],
     next: u16,
 ) -> Stored
-    requires { (Stands book.now.bytes book.now.index pattern PATTERN) × ((Stands book.now.bytes book.now.index e EXPRESSION) × (ScopeStands book.now.bytes book.now.index (lent bindings.now count))) }
-    ensures { Done nodes.old next (binding r (scope_of book.now.bytes book.now.index (lent bindings.now count)) (lower symbols (expr_of book.now.bytes book.now.index e) (pattern_of book.now.bytes book.now.index pattern ∷ (scope_of book.now.bytes book.now.index (lent bindings.now count))))) result nodes.new }
+    requires { (Stands book.now.bytes book.now.index pattern PATTERN) × ((Stands book.now.bytes book.now.index e EXPRESSION) × (ScopeStands book.now.bytes book.now.index scope.now)) }
+    ensures { Done nodes.old next (binding r (scope_of book.now.bytes book.now.index scope.now) (lower symbols (expr_of book.now.bytes book.now.index e) (pattern_of book.now.bytes book.now.index pattern ∷ (scope_of book.now.bytes book.now.index scope.now)))) result nodes.new }
 {
-    if count >= 256 {
+    if scope.count >= 256 {
         return Stored::Refused(Refusal {
             fault: Fault::Bindings,
             place: r,
         });
     }
-    let inner = insert(copied(bindings, count), pattern);
-    expression(book, symbols, e, &inner.bindings, inner.count, nodes, next)
+    let inner = scope.insert(pattern);
+    expression(book, symbols, e, &inner, nodes, next)
 }
 
 // What an expression makes of its row's node: an enum's match, a call, or a wrap.
@@ -215,16 +196,15 @@ fn complete(
     r: u16,
     m: u8,
     inner: u16,
-    bindings: &[u16],
-    count: usize,
+    scope: &ScopeBindings,
     nodes: &mut [u8],
     next: u16,
 ) -> Stored
-    requires { (Marked book.now.bytes book.now.index r m) × (ScopeStands book.now.bytes book.now.index (lent bindings.now count)) }
-    ensures { Done nodes.old next (complete_run symbols book.now.bytes book.now.index r m (scope_of book.now.bytes book.now.index (lent bindings.now count)) inner) result nodes.new }
+    requires { (Marked book.now.bytes book.now.index r m) × (ScopeStands book.now.bytes book.now.index scope.now) }
+    ensures { Done nodes.old next (complete_run symbols book.now.bytes book.now.index r m (scope_of book.now.bytes book.now.index scope.now) inner) result nodes.new }
 {
     if m == EH {
-        return choose(book, symbols, r, inner, bindings, count, nodes, next);
+        return choose(book, symbols, r, inner, scope, nodes, next);
     }
     if is_call(m) {
         return call(book, symbols, r, m, inner, nodes, next);
@@ -239,16 +219,15 @@ fn choose(
     symbols: bool,
     r: u16,
     cases: u16,
-    bindings: &[u16],
-    count: usize,
+    scope: &ScopeBindings,
     nodes: &mut [u8],
     next: u16,
 ) -> Stored
-    requires { (Marked book.now.bytes book.now.index r EH) × (ScopeStands book.now.bytes book.now.index (lent bindings.now count)) }
-    ensures { Done nodes.old next (complete_run symbols book.now.bytes book.now.index r EH (scope_of book.now.bytes book.now.index (lent bindings.now count)) cases) result nodes.new }
+    requires { (Marked book.now.bytes book.now.index r EH) × (ScopeStands book.now.bytes book.now.index scope.now) }
+    ensures { Done nodes.old next (complete_run symbols book.now.bytes book.now.index r EH (scope_of book.now.bytes book.now.index scope.now) cases) result nodes.new }
 {
     let e = book.field_at(r, 1);
-    match expression(book, symbols, e, bindings, count, nodes, next) {
+    match expression(book, symbols, e, scope, nodes, next) {
         Stored::Node { root: s, next: n } => choose_arm(r, s, cases, nodes, n),
         Stored::Refused(w) => Stored::Refused(w),
     }
@@ -298,8 +277,8 @@ fn function(book: &Book, symbols: bool, f: u16, nodes: &mut [u8], next: u16) -> 
 {
     let n = book.field_at(f, 1) as usize;
     let e = book.field_at(f, 2 + 2 * n);
-    let scope = from_root(f);
-    expression(book, symbols, e, &scope.bindings, scope.count, nodes, next)
+    let scope = ScopeBindings::from_root(f);
+    expression(book, symbols, e, &scope, nodes, next)
 }
 
 // A match of two arms: both arms, and then the scrutinee and the case.
@@ -308,13 +287,12 @@ fn two_arms(
     book: &Book,
     symbols: bool,
     r: u16,
-    bindings: &[u16],
-    count: usize,
+    scope: &ScopeBindings,
     nodes: &mut [u8],
     next: u16,
 ) -> Stored
-    requires { (Marked book.now.bytes book.now.index r EM) × (ScopeStands book.now.bytes book.now.index (lent bindings.now count)) }
-    ensures { Done nodes.old next (lower symbols (expr_of book.now.bytes book.now.index r) (scope_of book.now.bytes book.now.index (lent bindings.now count))) result nodes.new }
+    requires { (Marked book.now.bytes book.now.index r EM) × (ScopeStands book.now.bytes book.now.index scope.now) }
+    ensures { Done nodes.old next (lower symbols (expr_of book.now.bytes book.now.index r) (scope_of book.now.bytes book.now.index scope.now)) result nodes.new }
 {
     let left = arm_at(book, r, 2);
     match arm(
@@ -323,14 +301,11 @@ fn two_arms(
         r,
         left.pattern,
         left.body,
-        bindings,
-        count,
+        scope,
         nodes,
         next,
     ) {
-        Stored::Node { root: a, next: n } => {
-            second_arm(book, symbols, r, a, bindings, count, nodes, n)
-        }
+        Stored::Node { root: a, next: n } => { second_arm(book, symbols, r, a, scope, nodes, n) }
         Stored::Refused(w) => Stored::Refused(w),
     }
 }
@@ -342,13 +317,12 @@ fn second_arm(
     symbols: bool,
     r: u16,
     left: u16,
-    bindings: &[u16],
-    count: usize,
+    scope: &ScopeBindings,
     nodes: &mut [u8],
     next: u16,
 ) -> Stored
-    requires { (Marked book.now.bytes book.now.index r EM) × (ScopeStands book.now.bytes book.now.index (lent bindings.now count)) }
-    ensures { Done nodes.old next (second_run symbols book.now.bytes book.now.index r (scope_of book.now.bytes book.now.index (lent bindings.now count)) left) result nodes.new }
+    requires { (Marked book.now.bytes book.now.index r EM) × (ScopeStands book.now.bytes book.now.index scope.now) }
+    ensures { Done nodes.old next (second_run symbols book.now.bytes book.now.index r (scope_of book.now.bytes book.now.index scope.now) left) result nodes.new }
 {
     let right = arm_at(book, r, 4);
     let e = book.field_at(r, 1);
@@ -358,13 +332,12 @@ fn second_arm(
         r,
         right.pattern,
         right.body,
-        bindings,
-        count,
+        scope,
         nodes,
         next,
     ) {
         Stored::Node { root: b, next: n } => {
-            match expression(book, symbols, e, bindings, count, nodes, n) {
+            match expression(book, symbols, e, scope, nodes, n) {
                 Stored::Node { root: s, next: u } => match_arms(r, s, left, b, nodes, u),
                 Stored::Refused(w) => Stored::Refused(w),
             }
@@ -379,22 +352,21 @@ fn block(
     book: &Book,
     symbols: bool,
     r: u16,
-    bindings: &[u16],
-    live: usize,
+    scope: &ScopeBindings,
     nodes: &mut [u8],
     next: u16,
 ) -> Stored
-    requires { (Marked book.now.bytes book.now.index r EB) × (ScopeStands book.now.bytes book.now.index (lent bindings.now live)) }
-    ensures { Done nodes.old next (lower symbols (expr_of book.now.bytes book.now.index r) (scope_of book.now.bytes book.now.index (lent bindings.now live))) result nodes.new }
+    requires { (Marked book.now.bytes book.now.index r EB) × (ScopeStands book.now.bytes book.now.index scope.now) }
+    ensures { Done nodes.old next (lower symbols (expr_of book.now.bytes book.now.index r) (scope_of book.now.bytes book.now.index scope.now)) result nodes.new }
 {
     let count = book.field_at(r, 1) as usize;
     let mut begun = [0u16; 256];
-    let mut own = copied(bindings, live);
+    let mut own = *scope;
     let mut at = next;
     let mut k: usize = 0;
     while k < count {
         let s = book.field_at(r, 2 + k);
-        match begin(book, symbols, s, &own.bindings, own.count, nodes, at) {
+        match begin(book, symbols, s, &own, nodes, at) {
             Stored::Node { root: a, next: n } => {
                 begun[k] = a;
                 at = n;
@@ -406,7 +378,7 @@ fn block(
         }
         k += 1;
     }
-    match end(book, symbols, r, &own.bindings, own.count, nodes, at) {
+    match end(book, symbols, r, &own, nodes, at) {
         Stored::Node { root: a, next: n } => { close_all(book, r, &begun, count, a, nodes, n) }
         Stored::Refused(w) => Stored::Refused(w),
     }
@@ -418,20 +390,19 @@ fn end(
     book: &Book,
     symbols: bool,
     r: u16,
-    bindings: &[u16],
-    live: usize,
+    scope: &ScopeBindings,
     nodes: &mut [u8],
     next: u16,
 ) -> Stored
-    requires { (Marked book.now.bytes book.now.index r EB) × (ScopeStands book.now.bytes book.now.index (lent bindings.now live)) }
-    ensures { Done nodes.old next (statements symbols r (stmts_of book.now.bytes book.now.index r (2 + field book.now.bytes book.now.index r 1) 0) (scope_of book.now.bytes book.now.index (lent bindings.now live))) result nodes.new }
+    requires { (Marked book.now.bytes book.now.index r EB) × (ScopeStands book.now.bytes book.now.index scope.now) }
+    ensures { Done nodes.old next (statements symbols r (stmts_of book.now.bytes book.now.index r (2 + field book.now.bytes book.now.index r 1) 0) (scope_of book.now.bytes book.now.index scope.now)) result nodes.new }
 {
     let n = book.field_at(r, 1) as usize;
     let e = book.field_at(r, 2 + n);
     if e == 65535 {
         return answer_of(r, put(nodes, r, pen_at(next), UNIT, 0, 0));
     }
-    expression(book, symbols, e, bindings, live, nodes, next)
+    expression(book, symbols, e, scope, nodes, next)
 }
 
 // A statement, up to the rest of its block.
@@ -440,21 +411,20 @@ fn begin(
     book: &Book,
     symbols: bool,
     s: u16,
-    bindings: &[u16],
-    count: usize,
+    scope: &ScopeBindings,
     nodes: &mut [u8],
     next: u16,
 ) -> Stored
-    requires { (Stands book.now.bytes book.now.index s STATEMENT) × (ScopeStands book.now.bytes book.now.index (lent bindings.now count)) }
-    ensures { Done nodes.old next (begin_run book.now.bytes book.now.index s symbols (scope_of book.now.bytes book.now.index (lent bindings.now count))) result nodes.new }
+    requires { (Stands book.now.bytes book.now.index s STATEMENT) × (ScopeStands book.now.bytes book.now.index scope.now) }
+    ensures { Done nodes.old next (begin_run book.now.bytes book.now.index s symbols (scope_of book.now.bytes book.now.index scope.now)) result nodes.new }
 {
     if book.mark_at(s) != SA {
         let e = book.field_at(s, 0);
-        return expression(book, symbols, e, bindings, count, nodes, next);
+        return expression(book, symbols, e, scope, nodes, next);
     }
     let e = book.field_at(s, 1);
-    match expression(book, symbols, e, bindings, count, nodes, next) {
-        Stored::Node { root: a, next: n } => bind_value(s, a, count, nodes, n),
+    match expression(book, symbols, e, scope, nodes, next) {
+        Stored::Node { root: a, next: n } => bind_value(s, a, scope.count, nodes, n),
         Stored::Refused(w) => Stored::Refused(w),
     }
 }
@@ -485,5 +455,5 @@ fn enter(book: &Book, s: u16, scope: ScopeBindings) -> ScopeBindings
         return scope;
     }
     let pattern = book.field_at(s, 0);
-    insert(scope, pattern)
+    scope.insert(pattern)
 }

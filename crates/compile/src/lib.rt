@@ -13,7 +13,7 @@ use book::read::index_book;
 use book::record::Book;
 use named::node::Stored;
 use named::table::clear;
-use scope_bindings::{IGNORED, from_root};
+use scope_bindings::{IGNORED, ScopeBindings};
 
 mod cycle;
 
@@ -35,8 +35,8 @@ fn lower_root(book: &Book, symbols: bool, r: u16, nodes: &mut [u8]) -> Result<u1
     requires nodes_is { nodes.old ≡ replicate (length nodes.old) 0 }
     ensures { Lowered (cut (room (length nodes.old)) (trace_of symbols book.now.bytes book.now.index r)) (length nodes.old) result nodes.new }
 {
-    let scope = from_root(IGNORED);
-    match expression(book, symbols, r, &scope.bindings, scope.count, nodes, 0) {
+    let scope = ScopeBindings::from_root(IGNORED);
+    match expression(book, symbols, r, &scope, nodes, 0) {
         Stored::Node { root: _, next: n } => Ok(n),
         Stored::Refused(w) => {
             clear(nodes);

@@ -1,12 +1,12 @@
 -- Laws of what is built of nodes: bits, selectors, wraps along a path, rows.
 -- Assumes nothing.
-use Prim.Native.Nat.{ℕ, zero, suc, ◌+◌, ◌-◌, ◌≤◌, ◌<◌}
+use Prim.Native.Nat.{ℕ, zero, suc, ◌-◌, ◌≤◌, ◌<◌}
 use mathlib.Core.Bool.{Bool, true, false}
-use mathlib.Core.Path.{◌≡◌, sym, ap, ◌∙◌}
+use mathlib.Core.Path.{◌≡◌}
 use mathlib.Core.List.{List, [], ◌∷◌, map}
 use native.Mathlib.Omega.{arith}
-use lib.ListN.{length, get_or, take, drop, length-take, length-drop}
-use lib.Seq.{take-nil, drop-cons, drop-length, take-take, drop-drop}
+use lib.ListN.{length, get_or, take, drop}
+use lib.Seq.{drop-cons, drop-length}
 use Rattle.laws.specs.Rows.{map_length, map_take, map_drop}
 use Rattle.array.specs.Split.{split_of}
 use Rattle.array.specs.Path.{path}
@@ -73,33 +73,17 @@ module _ (r kind : ℕ) where
   joins_step xs h =
       rw (row_step (unit r) (joined (emit r kind)) (map pure xs) (rw map_length h), map_length, map_take, map_drop)
 
-drop_of_take : {A : Type 0} (c n : ℕ) (xs : List A) → c ≤ n → drop c (take n xs) ≡ take (n - c) (drop c xs)
-drop_of_take zero n xs h = let z : n - 0 ≡ n = omega arith in rw z
-drop_of_take (suc c) zero xs h = absurd (omega arith)
-drop_of_take (suc c) (suc n) [] h = sym (take-nil (suc n - suc c))
-drop_of_take (suc c) (suc n) (x ∷ xs) h = let e : suc n - suc c ≡ n - c = omega arith in rw e (drop_of_take c n xs (omega arith))
+-- a row of nodes by its length
+module _ (r kind : ℕ) {t : List ℕ} {p : Pen} where
+  pub join_none : {t₁ : List ℕ} {q : Pen} (xs : List ℕ) → length xs < 1 → Draws r t p (unit r) q t₁ → Draws r t p (joins r kind xs) q t₁
+  join_none [] h d = rw (joins_none r kind) d
+  join_none (x ∷ xs) h d = absurd (omega arith)
 
--- the nodes of a part of a row
-abbrev pub part : ℕ → ℕ → List ℕ → List ℕ
-part from n xs = take n (drop from xs)
+  pub join_one : (xs : List ℕ) → 1 ≤ length xs → length xs < 2 → Draws r t p (joins r kind xs) (record { next = p.next; root = get_or xs 0 0; full = p.full }) t
+  join_one [] h l = absurd (omega arith)
+  join_one (x ∷ []) h l = rw (joins_one r kind x) (draw_there r t p x)
+  join_one (x ∷ y ∷ xs) h l = absurd (omega arith)
 
-pub part_length : (from n : ℕ) (xs : List ℕ) → from + n ≤ length xs → length (part from n xs) ≡ n
-part_length from n xs h = simp (length-take, length-drop) (omega arith)
-
-pub part_drop : (from n c : ℕ) (xs : List ℕ) → c ≤ n → drop c (part from n xs) ≡ part (from + c) (n - c) xs
-part_drop from n c xs h = drop_of_take c n (drop from xs) h ∙ ap (take (n - c)) (drop-drop c from xs)
-
-module _ (r kind from : ℕ) (xs : List ℕ) {t : List ℕ} {p : Pen} where
-  pub join_none : {t₁ : List ℕ} {q : Pen} (n : ℕ) → n ≡ 0 → Draws r t p (unit r) q t₁ → Draws r t p (joins r kind (part from n xs)) q t₁
-  join_none n e d = rw (e, joins_none r kind) d
-
-  pub join_one : (n : ℕ) → n ≡ 1 → from + n ≤ length xs → Draws r t p (joins r kind (part from n xs)) (record { next = p.next; root = get_or xs from 0; full = p.full }) t
-  join_one n e h = rw (e, drop-cons xs from 0 (omega arith), joins_one r kind (get_or xs from 0)) (draw_there r t p (get_or xs from 0))
-
-  pub join_more : {t₁ t₂ t₃ : List ℕ} {q s v : Pen} (n c : ℕ) → from + n ≤ length xs → 2 ≤ n → c ≡ split_of n → c < n → Draws r t p (joins r kind (part from c xs)) q t₁ → Draws r t₁ q (joins r kind (part (from + c) (n - c) xs)) s t₂ → Draws r t₂ s (emit r kind q.root s.root) v t₃ → Draws r t p (joins r kind (part from n xs)) v t₃
-  join_more n c h two e l d f g =
-      let len : length (part from n xs) ≡ n = part_length from n xs h in
-      let left : take c (part from n xs) ≡ part from c xs = take-take c n (drop from xs) (omega arith) in
-      let right : drop c (part from n xs) ≡ part (from + c) (n - c) xs = part_drop from n c xs (omega arith) in
-      rw (joins_step r kind (part from n xs) (rw len two), len, ← e, left, right)
-      (draw_then _ d (draw_then _ f g))
+  -- two or more: the parts that it splits into, and then the node that joins them
+  pub join_more : {t₁ t₂ t₃ : List ℕ} {q s v : Pen} {c : ℕ} {ls gs : List ℕ} (xs : List ℕ) → 2 ≤ length xs → c ≡ split_of (length xs) → ls ≡ take c xs → gs ≡ drop c xs → Draws r t p (joins r kind ls) q t₁ → Draws r t₁ q (joins r kind gs) s t₂ → Draws r t₂ s (emit r kind q.root s.root) v t₃ → Draws r t p (joins r kind xs) v t₃
+  join_more xs two e l g d f o = rw (joins_step r kind xs two, ← e, ← l, ← g) (draw_then _ d (draw_then _ f o))

@@ -2,11 +2,11 @@
 -- Assumes nothing.
 use Prim.Native.Nat.{ℕ, zero, suc, ◌+◌, ◌*◌, ◌-◌, ◌≤◌}
 use mathlib.Core.Path.{◌≡◌, refl, sym, ◌∙◌}
-use mathlib.Core.List.{List, [], ◌∷◌, ◌++◌, append-nil}
+use mathlib.Core.List.{List, [], ◌∷◌, ◌++◌}
 use native.Mathlib.Omega.{arith}
 use native.Mathlib.Nat.{zero-add}
 use lib.ListN.{length, drop, replicate, length-replicate}
-use lib.Seq.{sets-eq, drop-length}
+use lib.Seq.{sets-eq}
 use Rattle.book.specs.declared.fault.Refusal.{Refusal}
 use Rattle.named.specs.Trace.{Node, Trace, done, stopped, store, Run}
 use Rattle.named.specs.Cut.{made, refused, cut, room, encode, image}
@@ -16,10 +16,6 @@ use Rattle.named.proofs.Runs.{after_made}
 -- a table of zeros
 abbrev pub zeros : ℕ → List ℕ
 zeros n = replicate n 0
-
--- what was filled up to k, all of it
-pub cleared : (t t₀ : List ℕ) (k : ℕ) → t ≡ zeros k ++ drop k t₀ → length t ≡ length t₀ → k ≤ length t₀ → length t ≤ k → t ≡ zeros (length t₀)
-cleared t t₀ k e l h g = let z : k ≡ length t₀ = omega arith in e ∙ rw (z, drop-length, append-nil)
 
 drop_zeros : (n m : ℕ) → drop n (zeros m) ≡ zeros (m - n)
 drop_zeros zero m = let e : m - 0 ≡ m = omega arith in rw e

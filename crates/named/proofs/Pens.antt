@@ -9,6 +9,8 @@ use native.Mathlib.Nat.{add-zero}
 use native.Mathlib.Numerals.{towards_suc}
 use lib.ListN.{length, length-append, set, length-set}
 use lib.Seq.{length-sets}
+use Rattle.std.specs.Prelude.{Result, Ok, Err, IsErrAnd}
+use Rattle.std.proofs.lemmas.Result.{err_from_is_err_and}
 use Rattle.book.specs.Faults.{refusal}
 use Rattle.book.specs.declared.fault.Refusal.{Refusal}
 use Rattle.book.specs.declared.fault.Fault.TheVariants.{Room}
@@ -16,10 +18,7 @@ use Rattle.named.specs.Trace.{Node, Run, pure, bind, emit, Stop, stop}
 use Rattle.named.specs.Cut.{Out, made, refused, after, cut, room, encode, fault_of}
 use Rattle.named.specs.Draws.{stored, comes, Gives, Stops, Fate, Done, FateAll, Fills, Draws, Opens, Closes}
 use Rattle.named.specs.declared.node.Pen.{Pen}
-use Rattle.named.specs.declared.node.Stored.{Stored}
-use Rattle.named.specs.declared.node.Stored.TheVariants as answers
-use Rattle.named.specs.declared.node.Filled.{Filled}
-use Rattle.named.specs.declared.node.Filled.TheVariants as fillings
+use Rattle.named.specs.declared.node.Placed.{Placed}
 use Rattle.named.proofs.Runs.{never, cut_then, cut_stop, stored_more}
 
 -- true is not false
@@ -110,10 +109,6 @@ draw_pure r t p = record { kept = refl; shut = λ f. f; drawn = λ f g. gives_pu
 pub draw_there : (r : ℕ) (t : List ℕ) (p : Pen) (a : ℕ) → Draws r t p (pure a) (record { next = p.next; root = a; full = p.full }) t
 draw_there r t p a = record { kept = refl; shut = λ f. f; drawn = λ f g. gives_pure t p.next a; full = λ f g. absurd (odd g f) }
 
--- a full pen
-pub draw_shut : (r : ℕ) (t : List ℕ) (p : Pen) (m : Run ℕ) → p.full ≡ true → Draws r t p m p t
-draw_shut r t p m f = record { kept = refl; shut = λ g. g; drawn = λ g h. absurd (odd f g); full = λ g h. absurd (odd f g) }
-
 -- one node: there is room, or there is none
 module _ (r : ℕ) (t : List ℕ) (p : Pen) (kind a b : ℕ) where
   pub draw_fits : p.next < 65535 → 5 * p.next + 5 ≤ length t → p.full ≡ false → Draws r t p (emit r kind a b) (record { next = p.next + 1; root = p.next; full = false })
@@ -134,24 +129,27 @@ module _ (r : ℕ) (t : List ℕ) (p : Pen) (kind a b : ℕ) where
       let e : room (length t) - p.next ≡ 0 = omega arith in
       record { kept = refl; shut = λ g. refl; drawn = λ g d. let z : ◌≡◌ {A = ℕ} 0 1 = cc in absurd (omega arith); full = λ g d. record { is = rw e refl } }
 
--- an answer with a node, and then the rest; `e` is what a match on the answer shows
-module _ (k : ℕ → Run ℕ) {m : Run ℕ} {t t₁ : List ℕ} {c u a : ℕ} where
-  fate_then : (r : Stored) (t₂ : List ℕ) → Gives t c m a u t₁ → Fate t₁ u (k a) r t₂ → Fate t c (bind m k) r t₂
+-- an answer with a node, and then the rest
+module _ (k : ℕ → Run ℕ) {m : Run ℕ} {t t₁ : List ℕ} {c : ℕ} {a : Placed} where
+  fate_then : (r : Result Placed Refusal) (t₂ : List ℕ) → Gives t c m a.root a.next t₁ → Fate t₁ a.next (k a.root) r t₂ → Fate t c (bind m k) r t₂
   unfolding Fate
-  fate_then (answers.Node b v) t₂ g h = gives_then k g h
-  fate_then (answers.Refused w) t₂ g h = gives_stop k g h
+  fate_then (Ok b) t₂ g h = gives_then k g h
+  fate_then (Err w) t₂ g h = gives_stop k g h
 
-  pub then : {t₂ : List ℕ} {r s : Stored} → Done t c m s t₁ → s ≡ answers.Node a u → Done t₁ u (k a) r t₂ → Done t c (bind m k) r t₂
+  pub then : {t₂ : List ℕ} {r : Result Placed Refusal} → Done t c m (Ok a) t₁ → Done t₁ a.next (k a.root) r t₂ → Done t c (bind m k) r t₂
   unfolding Fate
-  then {t₂} {r} p e q = record { kept = q.kept ∙ p.kept; fate = fate_then r t₂ (rw e at p.fate) q.fate }
+  then {t₂} {r} p q = record { kept = q.kept ∙ p.kept; fate = fate_then r t₂ p.fate q.fate }
 
--- an answer that is a refusal
-pub halt : (k : ℕ → Run ℕ) {m : Run ℕ} {t t₁ : List ℕ} {c : ℕ} {w : Refusal} {s : Stored} → Done t c m s t₁ → s ≡ answers.Refused w → Done t c (bind m k) (answers.Refused w) t₁
+-- a refusal that is handed on
+pub handed : {A : Type 0} {r : Result A Refusal} {w : Refusal} → IsErrAnd r (λ e. e ≡ w) → r ≡ Err w
+handed {r = r} h = let p = err_from_is_err_and r h in rw (p.1, p.2)
+
+pub halt : (k : ℕ → Run ℕ) {m : Run ℕ} {t t₁ : List ℕ} {c : ℕ} {w : Refusal} → Done t c m (Err w) t₁ → Done t c (bind m k) (Err w) t₁
 unfolding Fate
-halt k p e = record { kept = p.kept; fate = stops k (rw e at p.fate) }
+halt k p = record { kept = p.kept; fate = stops k p.fate }
 
 -- a pen's answer
-pub closes : {r c : ℕ} {t t' : List ℕ} {m : Run ℕ} {p q : Pen} {s : Stored} → Opens c p → Draws r t p m q t' → Closes r q s → Done t c m s t'
+pub closes : {r c : ℕ} {t t' : List ℕ} {m : Run ℕ} {p q : Pen} {s : Result Placed Refusal} → Opens c p → Draws r t p m q t' → Closes r q s → Done t c m s t'
 unfolding Fate
 closes {q = q} o d h = record {
   kept = d.kept;
@@ -160,57 +158,50 @@ closes {q = q} o d h = record {
       (λ f. rw (h.root f) (rw o.next at (d.drawn o.full f)));
 }
 
-pub done_pure : (t : List ℕ) (c a : ℕ) → Done t c (pure a) (answers.Node a c) t
+pub done_pure : (t : List ℕ) (c a : ℕ) → Done t c (pure a) (Ok (record { root = a; next = c })) t
 unfolding Fate
 done_pure t c a = record { kept = refl; fate = gives_pure t c a }
 
-pub done_stop : (t : List ℕ) (c r : ℕ) (s : Stop) → Done t c (stop s r) (answers.Refused (refusal (fault_of s) r)) t
+pub done_stop : (t : List ℕ) (c r : ℕ) (s : Stop) → Done t c (stop s r) (Err (refusal (fault_of s) r)) t
 unfolding Fate
 done_stop t c r s = record { kept = refl; fate = stop_stops t c r s }
 
 -- several nodes
 module _ {t : List ℕ} {c : ℕ} where
-  pub fill_none : Fills t c (pure []) (fillings.To c) [] t
+  pub fill_none : Fills t c (pure []) (Ok c) [] t
   unfolding FateAll
   fill_none = record { kept = refl; fate = gives_pure t c [] }
 
   -- one more before them, or a refusal
-  fate_next : {m : Run ℕ} (n : Run (List ℕ)) {t₁ : List ℕ} (t₂ : List ℕ) {u a : ℕ} (xs : List ℕ) (r : Filled) → Gives t c m a u t₁ → FateAll t₁ u n r xs t₂ → FateAll t c (bind m (λ x. bind n (λ ys. pure (x ∷ ys)))) r (a ∷ xs) t₂
+  fate_next : {m : Run ℕ} (n : Run (List ℕ)) {t₁ : List ℕ} (t₂ : List ℕ) {u a : ℕ} (xs : List ℕ) (r : Result ℕ Refusal) → Gives t c m a u t₁ → FateAll t₁ u n r xs t₂ → FateAll t c (bind m (λ x. bind n (λ ys. pure (x ∷ ys)))) r (a ∷ xs) t₂
   unfolding FateAll
-  fate_next n t₂ {a = a} xs (fillings.To v) g h = gives_then (λ x. bind n (λ ys. pure (x ∷ ys))) g (gives_then (λ ys. pure (a ∷ ys)) h (gives_pure t₂ v (a ∷ xs)))
-  fate_next n t₂ {a = a} xs (fillings.Refused w) g h = gives_stop (λ x. bind n (λ ys. pure (x ∷ ys))) g (stops (λ ys. pure (a ∷ ys)) h)
+  fate_next n t₂ {a = a} xs (Ok v) g h = gives_then (λ x. bind n (λ ys. pure (x ∷ ys))) g (gives_then (λ ys. pure (a ∷ ys)) h (gives_pure t₂ v (a ∷ xs)))
+  fate_next n t₂ {a = a} xs (Err w) g h = gives_stop (λ x. bind n (λ ys. pure (x ∷ ys))) g (stops (λ ys. pure (a ∷ ys)) h)
 
-  pub fill_next : {m : Run ℕ} {n : Run (List ℕ)} {t₁ t₂ : List ℕ} {u a : ℕ} {xs : List ℕ} {r : Filled} {s : Stored} → Done t c m s t₁ → s ≡ answers.Node a u → Fills t₁ u n r xs t₂ → Fills t c (bind m (λ x. bind n (λ ys. pure (x ∷ ys)))) r (a ∷ xs) t₂
+  pub fill_next : {m : Run ℕ} {n : Run (List ℕ)} {t₁ t₂ : List ℕ} {a : Placed} {xs : List ℕ} {r : Result ℕ Refusal} → Done t c m (Ok a) t₁ → Fills t₁ a.next n r xs t₂ → Fills t c (bind m (λ x. bind n (λ ys. pure (x ∷ ys)))) r (a.root ∷ xs) t₂
   unfolding Fate
-  fill_next {n = n} {t₂ = t₂} {xs = xs} {r = r} p e q = record { kept = q.kept ∙ p.kept; fate = fate_next n t₂ xs r (rw e at p.fate) q.fate }
+  fill_next {n = n} {t₂ = t₂} {xs = xs} {r = r} p q = record { kept = q.kept ∙ p.kept; fate = fate_next n t₂ xs r p.fate q.fate }
 
-  pub fill_halt : {m : Run ℕ} (n : Run (List ℕ)) {t₁ : List ℕ} {w : Refusal} {s : Stored} (xs : List ℕ) → Done t c m s t₁ → s ≡ answers.Refused w → Fills t c (bind m (λ x. bind n (λ ys. pure (x ∷ ys)))) (fillings.Refused w) xs t₁
+  pub fill_halt : {m : Run ℕ} (n : Run (List ℕ)) {t₁ : List ℕ} {w : Refusal} (xs : List ℕ) → Done t c m (Err w) t₁ → Fills t c (bind m (λ x. bind n (λ ys. pure (x ∷ ys)))) (Err w) xs t₁
   unfolding Fate FateAll
-  fill_halt n xs p e = record { kept = p.kept; fate = stops (λ x. bind n (λ ys. pure (x ∷ ys))) (rw e at p.fate) }
+  fill_halt n xs p = record { kept = p.kept; fate = stops (λ x. bind n (λ ys. pure (x ∷ ys))) p.fate }
 
 -- of a refusal the row says nothing
-pub fill_any : {t t' : List ℕ} {c : ℕ} {m : Run (List ℕ)} {w : Refusal} {xs : List ℕ} (ys : List ℕ) → Fills t c m (fillings.Refused w) xs t' → Fills t c m (fillings.Refused w) ys t'
+pub fill_any : {t t' : List ℕ} {c : ℕ} {m : Run (List ℕ)} {w : Refusal} {xs : List ℕ} (ys : List ℕ) → Fills t c m (Err w) xs t' → Fills t c m (Err w) ys t'
 unfolding FateAll
 fill_any ys p = record { kept = p.kept; fate = p.fate }
 
 -- several nodes, and then the rest
 module _ (k : List ℕ → Run ℕ) {m : Run (List ℕ)} {t t₁ : List ℕ} {c u : ℕ} {xs : List ℕ} where
-  fate_all_then : (r : Stored) (t₂ : List ℕ) → Gives t c m xs u t₁ → Fate t₁ u (k xs) r t₂ → Fate t c (bind m k) r t₂
+  fate_all_then : (r : Result Placed Refusal) (t₂ : List ℕ) → Gives t c m xs u t₁ → Fate t₁ u (k xs) r t₂ → Fate t c (bind m k) r t₂
   unfolding Fate
-  fate_all_then (answers.Node b v) t₂ g h = gives_then k g h
-  fate_all_then (answers.Refused w) t₂ g h = gives_stop k g h
+  fate_all_then (Ok b) t₂ g h = gives_then k g h
+  fate_all_then (Err w) t₂ g h = gives_stop k g h
 
-  pub all_then : {t₂ : List ℕ} {r : Stored} {s : Filled} → Fills t c m s xs t₁ → s ≡ fillings.To u → Done t₁ u (k xs) r t₂ → Done t c (bind m k) r t₂
+  pub all_then : {t₂ : List ℕ} {r : Result Placed Refusal} → Fills t c m (Ok u) xs t₁ → Done t₁ u (k xs) r t₂ → Done t c (bind m k) r t₂
   unfolding FateAll
-  all_then {t₂} {r} p e q = record { kept = q.kept ∙ p.kept; fate = fate_all_then r t₂ (rw e at p.fate) q.fate }
+  all_then {t₂} {r} p q = record { kept = q.kept ∙ p.kept; fate = fate_all_then r t₂ p.fate q.fate }
 
-pub all_halt : (k : List ℕ → Run ℕ) {m : Run (List ℕ)} {t t₁ : List ℕ} {c : ℕ} {xs : List ℕ} {w : Refusal} {s : Filled} → Fills t c m s xs t₁ → s ≡ fillings.Refused w → Done t c (bind m k) (answers.Refused w) t₁
+pub all_halt : (k : List ℕ → Run ℕ) {m : Run (List ℕ)} {t t₁ : List ℕ} {c : ℕ} {xs : List ℕ} {w : Refusal} → Fills t c m (Err w) xs t₁ → Done t c (bind m k) (Err w) t₁
 unfolding Fate FateAll
-all_halt k p e = record { kept = p.kept; fate = stops k (rw e at p.fate) }
-
--- what a pen's flag says of its answer
-pub closed_root : (r : ℕ) (p : Pen) → p.full ≡ false → Closes r p (answers.Node p.root p.next)
-closed_root r p f = record { root = λ g. refl; full = λ g. absurd (odd g f) }
-
-pub closed_full : (r : ℕ) (p : Pen) → p.full ≡ true → Closes r p (answers.Refused (refusal Room r))
-closed_full r p f = record { root = λ g. absurd (odd f g); full = λ g. refl }
+all_halt k p = record { kept = p.kept; fate = stops k p.fate }

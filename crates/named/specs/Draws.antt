@@ -1,6 +1,6 @@
 -- What a function that stores nodes has done: its answer and its table are those of a run, cut to the table's room.
 -- Assumes nothing.
-use Rattle.std.specs.Prelude.{ℕ, ◌+◌, ◌*◌, ◌-◌, true, false, ◌≡◌, List, length}
+use Rattle.std.specs.Prelude.{ℕ, ◌+◌, ◌*◌, ◌-◌, true, false, ◌≡◌, List, length, Result, Ok, Err}
 use Rattle.std.proofs.lemmas.List.Edits.{sets}
 use Rattle.book.specs.Faults.{refusal}
 use Rattle.book.specs.declared.fault.Fault.TheVariants.{Room}
@@ -8,10 +8,7 @@ use Rattle.book.specs.declared.fault.Refusal.{Refusal}
 use Rattle.named.specs.Trace.{Node, Run}
 use Rattle.named.specs.Cut.{Out, made, refused, cut, room, encode}
 use Rattle.named.specs.declared.node.Pen.{Pen}
-use Rattle.named.specs.declared.node.Stored.{Stored}
-use Rattle.named.specs.declared.node.Stored.TheVariants as answers
-use Rattle.named.specs.declared.node.Filled.{Filled}
-use Rattle.named.specs.declared.node.Filled.TheVariants as fillings
+use Rattle.named.specs.declared.node.Placed.{Placed}
 
 -- the table t with the nodes xs stored from node c on
 unfoldable pub stored : List ℕ → ℕ → List Node → List ℕ
@@ -33,21 +30,21 @@ pub record Stops {A : Type 0} (t : List ℕ) (c : ℕ) (m : Run A) (w : Refusal)
   pub is : comes t c m ≡ refused w
 
 -- an answer that is a node and the next number, or a refusal
-unfoldable pub Fate : List ℕ → ℕ → Run ℕ → Stored → List ℕ → Type 0
-Fate t c m (answers.Node a u) t' = Gives t c m a u t'
-Fate t c m (answers.Refused w) t' = Stops t c m w
+unfoldable pub Fate : List ℕ → ℕ → Run ℕ → Result Placed Refusal → List ℕ → Type 0
+Fate t c m (Ok a) t' = Gives t c m a.root a.next t'
+Fate t c m (Err w) t' = Stops t c m w
 
 -- from the table t with c nodes, the run m gave the answer s and left the table t'
-pub record Done (t : List ℕ) (c : ℕ) (m : Run ℕ) (s : Stored) (t' : List ℕ) : Type 0 where
+pub record Done (t : List ℕ) (c : ℕ) (m : Run ℕ) (s : Result Placed Refusal) (t' : List ℕ) : Type 0 where
   pub kept : length t' ≡ length t
   pub fate : Fate t c m s t'
 
 -- an answer that is the next number, where the results are the nodes xs, or a refusal
-unfoldable pub FateAll : List ℕ → ℕ → Run (List ℕ) → Filled → List ℕ → List ℕ → Type 0
-FateAll t c m (fillings.To u) xs t' = Gives t c m xs u t'
-FateAll t c m (fillings.Refused w) xs t' = Stops t c m w
+unfoldable pub FateAll : List ℕ → ℕ → Run (List ℕ) → Result ℕ Refusal → List ℕ → List ℕ → Type 0
+FateAll t c m (Ok u) xs t' = Gives t c m xs u t'
+FateAll t c m (Err w) xs t' = Stops t c m w
 
-pub record Fills (t : List ℕ) (c : ℕ) (m : Run (List ℕ)) (s : Filled) (xs : List ℕ) (t' : List ℕ) : Type 0 where
+pub record Fills (t : List ℕ) (c : ℕ) (m : Run (List ℕ)) (s : Result ℕ Refusal) (xs : List ℕ) (t' : List ℕ) : Type 0 where
   pub kept : length t' ≡ length t
   pub fate : FateAll t c m s xs t'
 
@@ -64,6 +61,6 @@ pub record Opens (c : ℕ) (p : Pen) : Type 0 where
   pub full : p.full ≡ false
 
 -- the answer of a pen for record r
-pub record Closes (r : ℕ) (p : Pen) (s : Stored) : Type 0 where
-  pub root : p.full ≡ false → s ≡ answers.Node p.root p.next
-  pub full : p.full ≡ true → s ≡ answers.Refused (refusal Room r)
+pub record Closes (r : ℕ) (p : Pen) (s : Result Placed Refusal) : Type 0 where
+  pub root : p.full ≡ false → s ≡ Ok (record { root = p.root; next = p.next })
+  pub full : p.full ≡ true → s ≡ Err (refusal Room r)

@@ -12,10 +12,8 @@ pub fn bit(nodes: &mut [u8], place: u16, pen: Pen, value: bool) -> Pen
     ensures { Draws place nodes.old pen (bit place value) result nodes.new }
 {
     let unit = put(nodes, place, pen, UNIT, 0, 0);
-    if value {
-        return put(nodes, place, unit, INJR, unit.root, 0);
-    }
-    put(nodes, place, unit, INJL, unit.root, 0)
+    let kind = if value { INJR } else { INJL };
+    put(nodes, place, unit, kind, unit.root, 0)
 }
 
 // A selector: iden, wrapped by takes and drops, the first outermost.
@@ -23,9 +21,7 @@ pub fn select(nodes: &mut [u8], place: u16, pen: Pen, steps: &[u8]) -> Pen
     ensures { Draws place nodes.old pen (select place steps.now) result nodes.new }
 {
     let mut at = put(nodes, place, pen, IDEN, 0, 0);
-    let mut k = steps.len();
-    while 0 < k {
-        k -= 1;
+    for k in (0..steps.len()).rev() {
         at = put(nodes, place, at, steps[k], at.root, 0);
     }
     at
@@ -49,32 +45,20 @@ pub fn along(nodes: &mut [u8], place: u16, pen: Pen, left: u8, right: u8, n: u32
 }
 
 // A row of nodes as a balanced tree: the original's fold of a BTreeSlice, for pairs and for cases.
-pub fn join(
-    nodes: &mut [u8],
-    place: u16,
-    pen: Pen,
-    kind: u8,
-    roots: &[u16],
-    from: usize,
-    count: usize,
-) -> Pen
-    requires { (from + count ≤ length roots.now) × (count ≤ 256) }
-    ensures { Draws place nodes.old pen (joins place kind (take count (drop from roots.now))) result nodes.new }
+pub fn join(nodes: &mut [u8], place: u16, pen: Pen, kind: u8, roots: &[u16]) -> Pen
+    requires { length roots.now ≤ 256 }
+    ensures { Draws place nodes.old pen (joins place kind roots.now) result nodes.new }
 {
-    if count == 0 {
-        return put(nodes, place, pen, UNIT, 0, 0);
+    match roots {
+        [] => put(nodes, place, pen, UNIT, 0, 0),
+        [root] => Pen { root: *root, ..pen },
+        _ => {
+            let (first, second) = roots.split_at(split(roots.len() as u32) as usize);
+            let left = join(nodes, place, pen, kind, first);
+            let right = join(nodes, place, left, kind, second);
+            put(nodes, place, right, kind, left.root, right.root)
+        }
     }
-    if count == 1 {
-        return Pen {
-            next: pen.next,
-            root: roots[from],
-            full: pen.full,
-        };
-    }
-    let s = split(count as u32) as usize;
-    let left = join(nodes, place, pen, kind, roots, from, s);
-    let right = join(nodes, place, left, kind, roots, from + s, count - s);
-    put(nodes, place, right, kind, left.root, right.root)
 }
 
 // What node f makes of two others.

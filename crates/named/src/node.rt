@@ -44,18 +44,11 @@ pub struct Pen {
     pub full: bool,
 }
 
-// The answer of a lowering: the node that stands for what was lowered and the next node's number, or a refusal.
+// What was lowered: the node that stands for it, and the next node's number.
 #[derive(Clone, Copy)]
-pub enum Stored {
-    Node { root: u16, next: u16 },
-    Refused(Refusal),
-}
-
-// The answer of a lowering of several, whose nodes stand in a lent row: the next node's number, or a refusal.
-#[derive(Clone, Copy)]
-pub enum Filled {
-    To(u16),
-    Refused(Refusal),
+pub struct Placed {
+    pub root: u16,
+    pub next: u16,
 }
 
 // A pen for the next node.
@@ -63,25 +56,26 @@ pub fn pen_at(next: u16) -> Pen
     ensures { Opens next result }
 {
     Pen {
-        next: next,
+        next,
         root: 0,
         full: false,
     }
 }
 
 // What a pen has come to, for a record.
-pub fn answer_of(place: u16, pen: Pen) -> Stored
+pub fn answer_of(place: u16, pen: Pen) -> Result<Placed, Refusal>
     ensures { Closes place pen result }
 {
     if pen.full {
-        return Stored::Refused(Refusal {
+        Err(Refusal {
             fault: Fault::Room,
-            place: place,
-        });
-    }
-    Stored::Node {
-        root: pen.root,
-        next: pen.next,
+            place,
+        })
+    } else {
+        Ok(Placed {
+            root: pen.root,
+            next: pen.next,
+        })
     }
 }
 
@@ -93,23 +87,17 @@ pub fn put(nodes: &mut [u8], place: u16, pen: Pen, kind: u8, left: u16, right: u
         return pen;
     }
     let at = 5 * (pen.next as usize);
-    if pen.next < 65535 {
-        if at + 5 <= nodes.len() {
-            nodes[at] = kind;
-            nodes[at + 1] = (left % 256) as u8;
-            nodes[at + 2] = (left / 256) as u8;
-            nodes[at + 3] = (right % 256) as u8;
-            nodes[at + 4] = (right / 256) as u8;
-            return Pen {
-                next: pen.next + 1,
-                root: pen.next,
-                full: false,
-            };
-        }
+    if pen.next == 65535 || nodes.len() < at + 5 {
+        return Pen { full: true, ..pen };
     }
+    nodes[at] = kind;
+    nodes[at + 1] = (left % 256) as u8;
+    nodes[at + 2] = (left / 256) as u8;
+    nodes[at + 3] = (right % 256) as u8;
+    nodes[at + 4] = (right / 256) as u8;
     Pen {
-        next: pen.next,
-        root: pen.root,
-        full: true,
+        next: pen.next + 1,
+        root: pen.next,
+        full: false,
     }
 }

@@ -4,8 +4,9 @@ use Prim.Native.Nat.{ℕ, zero, suc, ◌+◌, ◌*◌, ◌≤◌, ◌<◌}
 use mathlib.Core.List.{List, [], ◌∷◌}
 use mathlib.Core.Path.{◌≡◌, refl, ap, ap₂, ◌∙◌}
 use native.Mathlib.Omega.{arith}
-use lib.ListN.{length, get_or, set, take, length-set}
+use lib.ListN.{length, get_or, set, length-set}
 use lib.Seq.{get_or-set_same, get_or-set_other}
+use Rattle.std.specs.Prelude.{Result, Ok, Err}
 use Rattle.laws.specs.Order.{by_lt}
 use Rattle.jet.specs.Jets.{add_of}
 use Rattle.book.specs.Format.{CH}
@@ -15,8 +16,7 @@ use Rattle.book.specs.declared.fault.Refusal.{Refusal}
 use Rattle.named.specs.Trace.{Run}
 use Rattle.named.specs.Draws.{Done, Draws, Opens, Closes}
 use Rattle.named.specs.declared.node.Pen.{Pen}
-use Rattle.named.specs.declared.node.Stored.{Stored}
-use Rattle.named.specs.declared.node.Stored.TheVariants as answers
+use Rattle.named.specs.declared.node.Placed.{Placed}
 use Rattle.named.proofs.Pens.{then, halt, closes, done_pure}
 use Rattle.parts.specs.Parts.{Marked, Widths, widths_row, close_run, close_all}
 use Rattle.parts.proofs.Numbers.{hash_width}
@@ -41,33 +41,32 @@ module _ {b i : List ℕ} {r : ℕ} where
 
 -- all of them are the row
 module _ (b i : List ℕ) (r : ℕ) where
-  row_from : (n j : ℕ) (ws : List ℕ) → n ≤ length ws → ((k : ℕ) → k < n → get_or ws k 0 ≡ field b i r (j + 2 * k)) → take n ws ≡ widths_row b i r j n
+  row_from : (j : ℕ) (ws : List ℕ) → ((k : ℕ) → k < length ws → get_or ws k 0 ≡ field b i r (j + 2 * k)) → ws ≡ widths_row b i r j (length ws)
   unfolding widths_row group
-  row_from zero j ws h f = refl
-  row_from (suc n) j [] h f = absurd (omega arith)
-  row_from (suc n) j (w ∷ ws) h f =
+  row_from j [] f = refl
+  row_from j (w ∷ ws) f =
       let first : w ≡ field b i r j = f 0 (omega arith) ∙ ap (field b i r) (omega arith) in
-      ap₂ ◌∷◌ first (row_from n (j + 2) ws (omega arith) (λ k o. f (suc k) (omega arith) ∙ ap (field b i r) (omega arith)))
+      ap₂ ◌∷◌ first (row_from (j + 2) ws (λ k o. f (suc k) (omega arith) ∙ ap (field b i r) (omega arith)))
 
-  pub widths_row_lem : (n m : ℕ) (ws : List ℕ) → n ≡ m → Widths b i r n ws → take n ws ≡ widths_row b i r 3 m
-  widths_row_lem n m ws e w = rw (← e) (row_from n 3 ws w.fits w.is)
+  pub widths_row_lem : {m : ℕ} (ws : List ℕ) → length ws ≡ m → Widths b i r (length ws) ws → ws ≡ widths_row b i r 3 m
+  widths_row_lem ws e w = row_from 3 ws w.is ∙ ap (widths_row b i r 3) e
 
 -- a pen's answer for what is read of the book: x is what was read, y what the book has
-pub closes_at : {A : Type 0} (m : A → Run ℕ) {x y : A} {r c : ℕ} {t t' : List ℕ} {p q : Pen} {s : Stored} → x ≡ y → Opens c p → Draws r t p (m x) q t' → Closes r q s → Done t c (m y) s t'
+pub closes_at : {A : Type 0} (m : A → Run ℕ) {x y : A} {r c : ℕ} {t t' : List ℕ} {p q : Pen} {s : Result Placed Refusal} → x ≡ y → Opens c p → Draws r t p (m x) q t' → Closes r q s → Done t c (m y) s t'
 closes_at m e o d h = rw (← e) (closes o d h)
 
 -- the first k statements of a block, after which e stands
 module _ (b i : List ℕ) (r : ℕ) (xs : List ℕ) (e : ℕ) {t : List ℕ} {c : ℕ} where
-  pub close_none : (k : ℕ) → k ≤ 0 → Done t c (close_all b i r xs k e) (answers.Node e c) t
+  pub close_none : (k : ℕ) → k ≤ 0 → Done t c (close_all b i r xs k e) (Ok (record { root = e; next = c })) t
   unfolding close_all
   close_none zero h = done_pure t c e
   close_none (suc k) h = absurd (omega arith)
 
-  module _ (k j s : ℕ) (z : k ≡ suc j) (w : s ≡ field b i r (2 + j)) {t₁ : List ℕ} {a : Stored} (d : Done t c (close_run b i s (get_or xs j 0) e) a t₁) where
-    pub close_next : (n u : ℕ) → a ≡ answers.Node n u → (v : Stored) (t₂ : List ℕ) → Done t₁ u (close_all b i r xs j n) v t₂ → Done t c (close_all b i r xs k e) v t₂
+  module _ (k j s : ℕ) (z : k ≡ suc j) (w : s ≡ field b i r (2 + j)) {t₁ : List ℕ} where
+    pub close_next : {a : Placed} → Done t c (close_run b i s (get_or xs j 0) e) (Ok a) t₁ → (v : Result Placed Refusal) (t₂ : List ℕ) → Done t₁ a.next (close_all b i r xs j a.root) v t₂ → Done t c (close_all b i r xs k e) v t₂
     unfolding close_all
-    close_next n u q v t₂ f = rw (z, ← w) (then (close_all b i r xs j) d q f)
+    close_next d v t₂ f = rw (z, ← w) (then (close_all b i r xs j) d f)
 
-    pub close_halt : (o : Refusal) → a ≡ answers.Refused o → Done t c (close_all b i r xs k e) (answers.Refused o) t₁
+    pub close_halt : {o : Refusal} → Done t c (close_run b i s (get_or xs j 0) e) (Err o) t₁ → Done t c (close_all b i r xs k e) (Err o) t₁
     unfolding close_all
-    close_halt o q = rw (z, ← w) (halt (close_all b i r xs j) d q)
+    close_halt d = rw (z, ← w) (halt (close_all b i r xs j) d)

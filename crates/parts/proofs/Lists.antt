@@ -1,17 +1,15 @@
 -- Laws of a list's blocks: what is drawn for a list is its first block and then the rest at half the bound.
 -- Assumes nothing.
-use Prim.Native.Nat.{ℕ, suc, ◌+◌, ◌-◌, ◌*◌, ◌/◌, ◌^◌, ◌≤◌, ◌<◌}
+use Prim.Native.Nat.{ℕ, suc, ◌-◌, ◌*◌, ◌/◌, ◌^◌, ◌≤◌, ◌<◌}
 use mathlib.Core.List.{List, [], ◌∷◌}
 use mathlib.Core.Path.{◌≡◌, ap, ◌∙◌}
 use native.Mathlib.Omega.{arith}
-use lib.ListN.{length, get_or, take, drop, length-take, length-drop}
-use lib.Seq.{length-take-le, drop-cons, take-take, drop-drop, take-add, drop_at}
+use lib.ListN.{length, take, drop}
 use Rattle.array.specs.Split.{top_of}
 use Rattle.array.proofs.Partitions.{partition_none, partition_one, partition_filled, partition_empty}
 use Rattle.named.specs.Combinators.{pair, joined}
 use Rattle.named.specs.Draws.{Draws}
 use Rattle.named.specs.declared.node.Pen.{Pen}
-use Rattle.named.proofs.Builds.{part}
 use Rattle.named.proofs.Pens.{draw_then}
 use Rattle.parts.specs.Joins.{empty_block, filled_block, blocks, listed}
 use Rattle.parts.specs.Parts.{Power}
@@ -20,47 +18,35 @@ use Rattle.parts.proofs.Numbers.{Halved, top_power, power_halved}
 top_one : top_of 1 ≡ 0
 top_one = top_power 0
 
--- what is left of a row's first n after c of them
-later : (c n : ℕ) (l : List ℕ) → c ≤ n → n ≤ length l → drop c (take n l) ≡ take (n - c) (drop c l)
-later c n l h o =
-    let z : n ≡ c + (n - c) = omega arith in
-    ap (drop c) (ap (λ j. take j l) z ∙ take-add c (n - c) l) ∙ drop_at (take c l) (take (n - c) (drop c l)) c (length-take-le c l (omega arith))
+half_is : (half : ℕ) → Power half → (half ≡ 1 → ⊥) → half ≡ 2 ^ suc (top_of (half / 2))
+half_is half power some = power.is ∙ ap (λ j. 2 ^ j) (power_halved half power some).top
 
--- `count` nodes of a row from `from` on, as a list of bound 2 * half
-module _ (r from count half : ℕ) (xs : List ℕ) (fits : from + count ≤ length xs) where
+-- a row of nodes as a list of bound 2 * half
+module _ {r half : ℕ} {t : List ℕ} {p : Pen} where
   -- bound 2, of none and of one
-  pub list_none : {t t₁ : List ℕ} {p q : Pen} → half ≡ 1 → count < half → Draws r t p (empty_block r) q t₁ → Draws r t p (blocks r (top_of half) (part from count xs)) q t₁
-  list_none e l d =
-      let z : count ≡ 0 = omega arith in
-      rw (e, z, top_one, partition_none (empty_block r) (filled_block r) (joined (pair r))) d
+  pub list_none : {t₁ : List ℕ} {q : Pen} (xs : List ℕ) → half ≡ 1 → length xs < half → Draws r t p (empty_block r) q t₁ → Draws r t p (blocks r (top_of half) xs) q t₁
+  list_none [] e h d = rw (e, top_one, partition_none (empty_block r) (filled_block r) (joined (pair r))) d
+  list_none (x ∷ xs) e h d = absurd (omega arith)
 
-  pub list_one : {t t₁ : List ℕ} {p q : Pen} → half ≡ 1 → half ≤ count → count < 2 * half → Draws r t p (filled_block r (part from half xs)) q t₁ → Draws r t p (blocks r (top_of half) (part from count xs)) q t₁
-  list_one {t} {t₁} {p} {q} e l u d =
-      let z : count ≡ 1 = omega arith in
-      let one : take 1 (drop from xs) ≡ get_or xs from 0 ∷ [] = rw (drop-cons xs from 0 (omega arith)) in
-      let f : Draws r t p (filled_block r (get_or xs from 0 ∷ [])) q t₁ = rw (e, one) at d in
-      rw (e, z, one, top_one, partition_one (empty_block r) (filled_block r) (joined (pair r))) f
+  pub list_one : {t₁ : List ℕ} {q : Pen} {ls : List ℕ} (xs : List ℕ) → half ≡ 1 → half ≤ length xs → length xs < 2 * half → ls ≡ take half xs → Draws r t p (filled_block r ls) q t₁ → Draws r t p (blocks r (top_of half) xs) q t₁
+  list_one [] e h u l d = absurd (omega arith)
+  list_one {t₁} {q} (x ∷ []) e h u l d =
+      let f : Draws r t p (filled_block r (x ∷ [])) q t₁ = rw (l, e) at d in
+      rw (e, top_one, partition_one (empty_block r) (filled_block r) (joined (pair r))) f
+  list_one (x ∷ y ∷ xs) e h u l d = absurd (omega arith)
 
   -- a larger bound
-  module _ (power : Power half) (some : half ≡ 1 → ⊥) where
-    half_is : half ≡ 2 ^ suc (top_of (half / 2))
-    half_is = power.is ∙ ap (λ j. 2 ^ j) (power_halved half power some).top
-
-    long : length (part from count xs) ≡ count
-    long = simp (length-take, length-drop) (omega arith)
-
-    pub list_empty : {t t₁ t₂ t₃ : List ℕ} {p q s v : Pen} → count < half → Draws r t p (empty_block r) q t₁ → Draws r t₁ q (blocks r (top_of (half / 2)) (part from count xs)) s t₂ → Draws r t₂ s (pair r q.root s.root) v t₃ → Draws r t p (blocks r (top_of half) (part from count xs)) v t₃
-    list_empty l d f g =
-        let few : length (part from count xs) < 2 ^ suc (top_of (half / 2)) = omega (arith, long, half_is) in
-        rw ((power_halved half power some).top, partition_empty (empty_block r) (filled_block r) (joined (pair r)) (top_of (half / 2)) (part from count xs) few)
+  module _ (xs : List ℕ) (power : Power half) (some : half ≡ 1 → ⊥) where
+    pub list_empty : {t₁ t₂ t₃ : List ℕ} {q s v : Pen} → length xs < half → Draws r t p (empty_block r) q t₁ → Draws r t₁ q (blocks r (top_of (half / 2)) xs) s t₂ → Draws r t₂ s (pair r q.root s.root) v t₃ → Draws r t p (blocks r (top_of half) xs) v t₃
+    list_empty h d f g =
+        let few : length xs < 2 ^ suc (top_of (half / 2)) = omega (arith, half_is half power some) in
+        rw ((power_halved half power some).top, partition_empty (empty_block r) (filled_block r) (joined (pair r)) (top_of (half / 2)) xs few)
         (draw_then _ d (draw_then _ f g))
 
-    pub list_filled : {t t₁ t₂ t₃ : List ℕ} {p q s v : Pen} → half ≤ count → Draws r t p (filled_block r (part from half xs)) q t₁ → Draws r t₁ q (blocks r (top_of (half / 2)) (part (from + half) (count - half) xs)) s t₂ → Draws r t₂ s (pair r q.root s.root) v t₃ → Draws r t p (blocks r (top_of half) (part from count xs)) v t₃
-    list_filled l d f g =
-        let many : 2 ^ suc (top_of (half / 2)) ≤ length (part from count xs) = omega (arith, long, half_is) in
-        let first : take half (part from count xs) ≡ part from half xs = take-take half count (drop from xs) l in
-        let others : drop half (part from count xs) ≡ part (from + half) (count - half) xs = later half count (drop from xs) l (rw length-drop (omega arith)) ∙ ap (take (count - half)) (drop-drop half from xs) in
-        rw ((power_halved half power some).top, partition_filled (empty_block r) (filled_block r) (joined (pair r)) (top_of (half / 2)) (part from count xs) many, ← half_is, first, others)
+    pub list_filled : {t₁ t₂ t₃ : List ℕ} {q s v : Pen} {ls gs : List ℕ} → half ≤ length xs → ls ≡ take half xs → gs ≡ drop half xs → Draws r t p (filled_block r ls) q t₁ → Draws r t₁ q (blocks r (top_of (half / 2)) gs) s t₂ → Draws r t₂ s (pair r q.root s.root) v t₃ → Draws r t p (blocks r (top_of half) xs) v t₃
+    list_filled h l o d f g =
+        let many : 2 ^ suc (top_of (half / 2)) ≤ length xs = omega (arith, half_is half power some) in
+        rw ((power_halved half power some).top, partition_filled (empty_block r) (filled_block r) (joined (pair r)) (top_of (half / 2)) xs many, ← half_is half power some, ← l, ← o)
         (draw_then _ d (draw_then _ f g))
 
 -- a list of a bound by its half

@@ -7,12 +7,14 @@ use mathlib.Core.Path.{◌≡◌, sym, ◌∙◌}
 use native.Mathlib.Omega.{arith}
 use lib.Dec.{T, eqb, ltb, leb, leb→le, eqb→eq}
 use lib.ListN.{get_or}
-use Rattle.laws.specs.Table.{pick, both, among, both_left, both_right}
+use borrow.Author.Tests.{ne_eqb}
+use Rattle.laws.specs.Order.{by_lt}
+use Rattle.laws.specs.Table.{pick, both, among, both_left, both_right, every, ◌also◌}
 use Rattle.book.specs.Format.{COUNT, CJ, CL, CR, CD, CA, CP, CN, CH}
 use Rattle.book.specs.Index.{mark, field, Lies}
 use Rattle.book.proofs.Roles.{layout}
 use Rattle.book.proofs.Standing.{stands_mark, head_lies, head_most, each_lies}
-use Rattle.parts.specs.Parts.{Marked, Spanned, span_at, is_call, is_functional}
+use Rattle.parts.specs.Parts.{Marked, Spanned, span_at, is_call, symbol_marks, is_functional}
 use Rattle.parts.specs.declared.view.Span.{Span}
 
 -- the widths of a hash
@@ -59,3 +61,23 @@ plain_rest {b} {i} {r} {m} g call plain free =
     let u : T (left_over m) = rw g.is at t in
     let v : T (eqb m CH) = rw (call, plain, free) at u in
     eqb→eq m CH v
+
+-- the marks that have a symbol: those from CJ to CP, and CH
+pub has_symbol : (m : ℕ) → CJ ≤ m → m ≤ CH → (CP < m → CH ≤ m) → among symbol_marks m ≡ true
+has_symbol m l h f =
+    by_lt m CL (λ o. let z : m ≡ CJ = omega arith in rw z) (λ l.
+    by_lt m CR (λ o. let z : m ≡ CL = omega arith in rw z) (λ l.
+    by_lt m CD (λ o. let z : m ≡ CR = omega arith in rw z) (λ l.
+    by_lt m CA (λ o. let z : m ≡ CD = omega arith in rw z) (λ l.
+    by_lt m CP (λ o. let z : m ≡ CA = omega arith in rw z) (λ l.
+    by_lt CP m (λ o. let g : CH ≤ m = f o in let z : m ≡ CH = omega arith in rw z) (λ k. let z : m ≡ CP = omega arith in rw z))))))
+
+pub no_symbol : (m : ℕ) → (CJ ≤ m → CP < m) → (m ≡ CH → ⊥) → among symbol_marks m ≡ false
+no_symbol m f e =
+    rw (ne_eqb m CJ (λ z. omega arith), ne_eqb m CL (λ z. omega arith), ne_eqb m CR (λ z. omega arith), ne_eqb m CD (λ z. omega arith), ne_eqb m CA (λ z. omega arith), ne_eqb m CP (λ z. omega arith), ne_eqb m CH e)
+
+-- where the mark has one, it is field 1
+pub symbol_lies : {b i : List ℕ} {r m : ℕ} → Marked b i r m → among symbol_marks m ≡ true → Lies b i r 1
+symbol_lies {b} {i} {r} {m} g e = every symbol_marks (λ k. Marked b i r k → Lies b i r 1)
+    ((λ k. lies k 1 tt) also (λ k. lies k 1 tt) also (λ k. lies k 1 tt) also (λ k. lies k 1 tt) also (λ k. lies k 1 tt) also (λ k. lies k 1 tt) also (λ k. lies k 1 tt) also tt)
+    m (rw e tt) g

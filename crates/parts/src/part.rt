@@ -1,5 +1,5 @@
 // What is stored around expressions: the parts of a lowering that lower no expression themselves.
-ghost use Rattle.std.specs.Prelude.{◌≡◌, true, false, ◌+◌, ◌*◌, ◌<◌, ◌≤◌, length, take, drop};
+ghost use Rattle.std.specs.Prelude.{◌≡◌, true, false, ◌*◌, ◌<◌, ◌≤◌, length};
 ghost use Rattle.array.specs.Split.{top_of};
 ghost use Rattle.book.specs.Format.{EC, EW, EN, EB, CH};
 ghost use Rattle.book.specs.Index.{field};
@@ -8,13 +8,14 @@ ghost use Rattle.named.specs.Draws.{Draws, Done};
 ghost use Rattle.parts.specs.Joins.{empty_block, filled_block, blocks, matched, chosen, finished};
 ghost use Rattle.parts.specs.Parts.{Marked, Stated, Power, span_at, is_call, is_functional, symbol_at, gather_run, wrap_run, fold_run, plain_run, Widths, close_run, close_all};
 
+use book::fault::Refusal;
 use book::format::{CA, CD, CH, CJ, CL, CN, CP, CQ, CR, CW, CY, E0, E1, EH, EL, EN, SA};
 use book::record::Book;
 use builtins::array_fold::array_fold;
 use builtins::raw_hash::raw_hash;
 use named::build::{along, join};
 use named::node::{
-    CASE, COMP, FAIL, IDEN, INJL, INJR, JET, PAIR, Pen, SCRIBE, Stored, UNIT, WITNESS, answer_of,
+    CASE, COMP, FAIL, IDEN, INJL, INJR, JET, PAIR, Pen, Placed, SCRIBE, UNIT, WITNESS, answer_of,
     pen_at, put,
 };
 use recipes::calls::{followed, is_none, paired, unwrap_left, unwrap_right, with_symbol};
@@ -22,7 +23,7 @@ use recipes::for_while::for_while;
 use recipes::list_fold::list_fold;
 
 // A constant: its value's record.
-pub fn constant(book: &Book, r: u16, nodes: &mut [u8], next: u16) -> Stored
+pub fn constant(book: &Book, r: u16, nodes: &mut [u8], next: u16) -> Result<Placed, Refusal>
     requires { Marked book.now.bytes book.now.index r EC }
     ensures { Done nodes.old next (scribe r (field book.now.bytes book.now.index r 1)) result nodes.new }
 {
@@ -32,7 +33,7 @@ pub fn constant(book: &Book, r: u16, nodes: &mut [u8], next: u16) -> Stored
 }
 
 // A witness: its name and its type's record.
-pub fn witness(book: &Book, r: u16, nodes: &mut [u8], next: u16) -> Stored
+pub fn witness(book: &Book, r: u16, nodes: &mut [u8], next: u16) -> Result<Placed, Refusal>
     requires { Marked book.now.bytes book.now.index r EW }
     ensures { Done nodes.old next (witness r (field book.now.bytes book.now.index r 1) (field book.now.bytes book.now.index r 0)) result nodes.new }
 {
@@ -51,56 +52,33 @@ fn empty_block(nodes: &mut [u8], place: u16, pen: Pen) -> Pen
 }
 
 // A list's filled block: right of its elements' tree.
-fn filled_block(
-    nodes: &mut [u8],
-    place: u16,
-    pen: Pen,
-    roots: &[u16],
-    from: usize,
-    count: usize,
-) -> Pen
-    requires from_fits { from + count ≤ length roots.now }
-    requires count_in_range { count ≤ 256 }
-    ensures { Draws place nodes.old pen (filled_block place (take count (drop from roots.now))) result nodes.new }
+fn filled_block(nodes: &mut [u8], place: u16, pen: Pen, roots: &[u16]) -> Pen
+    requires { length roots.now ≤ 256 }
+    ensures { Draws place nodes.old pen (filled_block place roots.now) result nodes.new }
 {
-    let tree = join(nodes, place, pen, PAIR, roots, from, count);
+    let tree = join(nodes, place, pen, PAIR, roots);
     put(nodes, place, tree, INJR, tree.root, 0)
 }
 
 // A list of a bound, of which `half` is the half: its first block, and then the rest at half the bound.
-fn list(
-    nodes: &mut [u8],
-    place: u16,
-    pen: Pen,
-    roots: &[u16],
-    from: usize,
-    count: usize,
-    half: usize,
-) -> Pen
-    requires { (from + count ≤ length roots.now) × ((count < 2 * half) × (Power half)) }
-    ensures { Draws place nodes.old pen (blocks place (top_of half) (take count (drop from roots.now))) result nodes.new }
+fn list(nodes: &mut [u8], place: u16, pen: Pen, roots: &[u16], half: usize) -> Pen
+    requires { (length roots.now < 2 * half) × (Power half) }
+    ensures { Draws place nodes.old pen (blocks place (top_of half) roots.now) result nodes.new }
 {
-    if count < half {
+    if roots.len() < half {
         let block = empty_block(nodes, place, pen);
         if half == 1 {
             return block;
         }
-        let rest = list(nodes, place, block, roots, from, count, half / 2);
+        let rest = list(nodes, place, block, roots, half / 2);
         return put(nodes, place, rest, PAIR, block.root, rest.root);
     }
-    let block = filled_block(nodes, place, pen, roots, from, half);
+    let (first, others) = roots.split_at(half);
+    let block = filled_block(nodes, place, pen, first);
     if half == 1 {
         return block;
     }
-    let rest = list(
-        nodes,
-        place,
-        block,
-        roots,
-        from + half,
-        count - half,
-        half / 2,
-    );
+    let rest = list(nodes, place, block, others, half / 2);
     put(nodes, place, rest, PAIR, block.root, rest.root)
 }
 
@@ -110,48 +88,53 @@ pub fn gather(
     r: u16,
     m: u8,
     roots: &[u16],
-    count: usize,
     nodes: &mut [u8],
     next: u16,
-) -> Stored
+) -> Result<Placed, Refusal>
     requires marked { Marked book.now.bytes book.now.index r m }
-    requires count_is { count ≡ (span_at m (field book.now.bytes book.now.index r)).count }
-    requires count_in_range { count ≤ 256 }
-    requires count_fits { count ≤ length roots.now }
-    ensures { Done nodes.old next (gather_run book.now.bytes book.now.index r m (take count roots.now)) result nodes.new }
+    requires count_is { length roots.now ≡ (span_at m (field book.now.bytes book.now.index r)).count }
+    requires count_in_range { length roots.now ≤ 256 }
+    ensures { Done nodes.old next (gather_run book.now.bytes book.now.index r m roots.now) result nodes.new }
 {
     let pen = pen_at(next);
     if m == EL {
         let bound = book.field_at(r, 1) as usize;
-        let blocks = list(nodes, r, pen, roots, 0, count, bound / 2);
-        return answer_of(r, blocks);
+        return answer_of(r, list(nodes, r, pen, roots, bound / 2));
     }
-    if m == EH {
-        let cases = join(nodes, r, pen, CASE, roots, 0, count);
-        return answer_of(r, cases);
-    }
-    let pairs = join(nodes, r, pen, PAIR, roots, 0, count);
-    answer_of(r, pairs)
+    let kind = if m == EH { CASE } else { PAIR };
+    answer_of(r, join(nodes, r, pen, kind, roots))
 }
 
 // A variant: its payload along the path of its index.
-fn variant(book: &Book, r: u16, payload: u16, nodes: &mut [u8], next: u16) -> Stored
+fn variant(
+    book: &Book,
+    r: u16,
+    payload: u16,
+    nodes: &mut [u8],
+    next: u16,
+) -> Result<Placed, Refusal>
     requires { Marked book.now.bytes book.now.index r EN }
     ensures { Done nodes.old next (wrap_run book.now.bytes book.now.index r EN payload) result nodes.new }
 {
     let k = book.field_at(r, 1) as u32;
     let n = book.field_at(r, 2) as u32;
     let pen = Pen {
-        next: next,
         root: payload,
-        full: false,
+        ..pen_at(next)
     };
     let whole = along(nodes, r, pen, INJL, INJR, n, k);
     answer_of(r, whole)
 }
 
 // What a record that is neither a match nor a call makes of its row's node.
-pub fn wrap(book: &Book, r: u16, m: u8, inner: u16, nodes: &mut [u8], next: u16) -> Stored
+pub fn wrap(
+    book: &Book,
+    r: u16,
+    m: u8,
+    inner: u16,
+    nodes: &mut [u8],
+    next: u16,
+) -> Result<Placed, Refusal>
     requires { Marked book.now.bytes book.now.index r m }
     ensures { Done nodes.old next (wrap_run book.now.bytes book.now.index r m inner) result nodes.new }
 {
@@ -165,10 +148,7 @@ pub fn wrap(book: &Book, r: u16, m: u8, inner: u16, nodes: &mut [u8], next: u16)
             answer_of(r, right)
         }
         EN => variant(book, r, inner, nodes, next),
-        _ => Stored::Node {
-            root: inner,
-            next: next,
-        },
+        _ => Ok(Placed { root: inner, next }),
     }
 }
 
@@ -180,7 +160,7 @@ pub fn match_arms(
     right: u16,
     nodes: &mut [u8],
     next: u16,
-) -> Stored
+) -> Result<Placed, Refusal>
     ensures { Done nodes.old next (matched r scrutinee left right) result nodes.new }
 {
     let input = paired(nodes, r, pen_at(next), scrutinee);
@@ -190,7 +170,13 @@ pub fn match_arms(
 }
 
 // An enum's match, after its tree of cases and its scrutinee.
-pub fn choose_arm(r: u16, scrutinee: u16, cases: u16, nodes: &mut [u8], next: u16) -> Stored
+pub fn choose_arm(
+    r: u16,
+    scrutinee: u16,
+    cases: u16,
+    nodes: &mut [u8],
+    next: u16,
+) -> Result<Placed, Refusal>
     ensures { Done nodes.old next (chosen r scrutinee cases) result nodes.new }
 {
     let input = paired(nodes, r, pen_at(next), scrutinee);
@@ -204,13 +190,7 @@ fn symbol_of(book: &Book, r: u16, m: u8) -> u16
     ensures { result ≡ symbol_at m (field book.now.bytes book.now.index r) }
 {
     match m {
-        CJ => book.field_at(r, 1),
-        CL => book.field_at(r, 1),
-        CR => book.field_at(r, 1),
-        CD => book.field_at(r, 1),
-        CA => book.field_at(r, 1),
-        CP => book.field_at(r, 1),
-        CH => book.field_at(r, 1),
+        CJ | CL | CR | CD | CA | CP | CH => book.field_at(r, 1),
         _ => 0,
     }
 }
@@ -225,49 +205,50 @@ pub fn finish(
     body: u16,
     nodes: &mut [u8],
     next: u16,
-) -> Stored
+) -> Result<Placed, Refusal>
     requires { Marked book.now.bytes book.now.index r m }
     ensures { Done nodes.old next (finished symbols r (symbol_at m (field book.now.bytes book.now.index r)) arguments body) result nodes.new }
 {
     let symbol = symbol_of(book, r, m);
-    if symbols {
-        if 0 < symbol {
-            let whole = with_symbol(nodes, r, pen_at(next), symbol, arguments, body);
-            return answer_of(r, whole);
-        }
+    let pen = pen_at(next);
+    if symbols && 0 < symbol {
+        return answer_of(r, with_symbol(nodes, r, pen, symbol, arguments, body));
     }
-    let whole = put(nodes, r, pen_at(next), COMP, arguments, body);
-    answer_of(r, whole)
+    answer_of(r, put(nodes, r, pen, COMP, arguments, body))
 }
 
 // The bit widths of a hash's words, as a row.
-fn widths_of(book: &Book, r: u16, count: usize, widths: &mut [u16])
+fn widths_of(book: &Book, r: u16, widths: &mut [u16])
     requires marked { Marked book.now.bytes book.now.index r CH }
-    requires count_is { count ≡ field book.now.bytes book.now.index r 2 }
-    requires count_fits { count ≤ length widths.old }
-    ensures { Widths book.now.bytes book.now.index r count widths.new }
+    requires count_is { length widths.old ≡ field book.now.bytes book.now.index r 2 }
+    ensures count { length widths.new ≡ field book.now.bytes book.now.index r 2 }
+    ensures widths { Widths book.now.bytes book.now.index r (length widths.new) widths.new }
 {
-    let mut k: usize = 0;
-    while k < count {
-        widths[k] = book.field_at(r, 3 + 2 * k);
-        k += 1;
+    for (k, width) in widths.iter_mut().enumerate() {
+        *width = book.field_at(r, 3 + 2 * k);
     }
 }
 
 // The body of a hash.
-fn hash_body(book: &Book, r: u16, nodes: &mut [u8], next: u16) -> Stored
+fn hash_body(book: &Book, r: u16, nodes: &mut [u8], next: u16) -> Result<Placed, Refusal>
     requires { Marked book.now.bytes book.now.index r CH }
     ensures { Done nodes.old next (plain_run book.now.bytes book.now.index r CH) result nodes.new }
 {
     let count = book.field_at(r, 2) as usize;
-    let mut widths = [0u16; 256];
-    widths_of(book, r, count, &mut widths);
-    let hash = raw_hash(nodes, r, pen_at(next), &widths, count);
-    answer_of(r, hash)
+    let mut row = [0u16; 256];
+    let widths = &mut row[..count];
+    widths_of(book, r, widths);
+    answer_of(r, raw_hash(nodes, r, pen_at(next), widths))
 }
 
 // The body of a call that names no function.
-pub fn plain_body(book: &Book, r: u16, m: u8, nodes: &mut [u8], next: u16) -> Stored
+pub fn plain_body(
+    book: &Book,
+    r: u16,
+    m: u8,
+    nodes: &mut [u8],
+    next: u16,
+) -> Result<Placed, Refusal>
     requires marked { Marked book.now.bytes book.now.index r m }
     requires is_call_is { is_call m ≡ true }
     requires is_functional_is { is_functional m ≡ false }
@@ -290,7 +271,14 @@ pub fn plain_body(book: &Book, r: u16, m: u8, nodes: &mut [u8], next: u16) -> St
 }
 
 // What a fold or a loop makes of its function's node; a plain call takes it as it is.
-pub fn fold_body(book: &Book, r: u16, m: u8, body: u16, nodes: &mut [u8], next: u16) -> Stored
+pub fn fold_body(
+    book: &Book,
+    r: u16,
+    m: u8,
+    body: u16,
+    nodes: &mut [u8],
+    next: u16,
+) -> Result<Placed, Refusal>
     requires { Marked book.now.bytes book.now.index r m }
     ensures { Done nodes.old next (fold_run book.now.bytes book.now.index r m body) result nodes.new }
 {
@@ -307,15 +295,19 @@ pub fn fold_body(book: &Book, r: u16, m: u8, body: u16, nodes: &mut [u8], next: 
             let width = book.field_at(r, 2);
             answer_of(r, for_while(nodes, r, pen_at(next), width, body))
         }
-        _ => Stored::Node {
-            root: body,
-            next: next,
-        },
+        _ => Ok(Placed { root: body, next }),
     }
 }
 
 // A statement, after the rest of its block.
-fn close(book: &Book, s: u16, begun: u16, rest: u16, nodes: &mut [u8], next: u16) -> Stored
+fn close(
+    book: &Book,
+    s: u16,
+    begun: u16,
+    rest: u16,
+    nodes: &mut [u8],
+    next: u16,
+) -> Result<Placed, Refusal>
     requires { Stated book.now.bytes book.now.index s }
     ensures { Done nodes.old next (close_run book.now.bytes book.now.index s begun rest) result nodes.new }
 {
@@ -330,34 +322,18 @@ pub fn close_all(
     book: &Book,
     r: u16,
     begun: &[u16],
-    count: usize,
     end: u16,
     nodes: &mut [u8],
     next: u16,
-) -> Stored
+) -> Result<Placed, Refusal>
     requires marked { Marked book.now.bytes book.now.index r EB }
-    requires count_is { count ≡ field book.now.bytes book.now.index r 1 }
-    requires count_fits { count ≤ length begun.now }
-    ensures { Done nodes.old next (close_all book.now.bytes book.now.index r begun.now count end) result nodes.new }
+    requires count_is { length begun.now ≡ field book.now.bytes book.now.index r 1 }
+    ensures { Done nodes.old next (close_all book.now.bytes book.now.index r begun.now (length begun.now) end) result nodes.new }
 {
-    let mut root = end;
-    let mut at = next;
-    let mut k = count;
-    while 0 < k {
-        k -= 1;
+    let mut rest = Placed { root: end, next };
+    for k in (0..begun.len()).rev() {
         let s = book.field_at(r, 2 + k);
-        match close(book, s, begun[k], root, nodes, at) {
-            Stored::Node { root: a, next: n } => {
-                root = a;
-                at = n;
-            }
-            Stored::Refused(w) => {
-                return Stored::Refused(w);
-            }
-        }
+        rest = close(book, s, begun[k], rest.root, nodes, rest.next)?;
     }
-    Stored::Node {
-        root: root,
-        next: at,
-    }
+    Ok(rest)
 }

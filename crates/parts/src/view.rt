@@ -18,9 +18,9 @@ fn spanning(from: usize, stride: usize, count: usize) -> Span
     ensures { result ≡ span from stride count }
 {
     Span {
-        from: from,
-        stride: stride,
-        count: count,
+        from,
+        stride,
+        count,
     }
 }
 
@@ -63,20 +63,14 @@ pub fn span_of(book: &Book, r: u16, m: u8) -> Span
 pub fn is_call(m: u8) -> bool
     ensures { result ≡ is_call m }
 {
-    if m < CJ {
-        return false;
-    }
-    m != CK
+    m >= CJ && m != CK
 }
 
 // Whether a call's mark names a function.
 pub fn is_functional(m: u8) -> bool
     ensures { result ≡ is_functional m }
 {
-    if m < CF {
-        return false;
-    }
-    m <= CW
+    matches!(m, CF..=CW)
 }
 
 // An arm of a match: its pattern and its expression.

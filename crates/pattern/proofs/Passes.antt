@@ -6,7 +6,6 @@ use mathlib.Core.Option.{Option, some, none}
 use mathlib.Core.Path.{◌≡◌, refl, ap, ◌∙◌}
 use native.Mathlib.Omega.{arith}
 use borrow.Author.Tests.{eq-eqb, ne_eqb}
-use lib.ListN.{length}
 use Rattle.array.specs.Path.{Side, path}
 use Rattle.book.specs.Tree.{Pat, name, pat_row, Pats, no_pats, more_pats, group}
 use Rattle.book.proofs.Built.{group_next, group_none}
@@ -61,9 +60,6 @@ pub passes_none : {w : Option (List Side)} {x s h : ℕ} {a : ℕ → Pat} {n : 
 passes_none few e = record { few = few; low = omega arith; table = refl; rest = e }
 
 module _ {w : Option (List Side)} {x s h : ℕ} {a : ℕ → Pat} {n k : ℕ} {t t₁ : List ℕ} (p : Passes w x s a h n k t t₁) where
-  pub passes_kept : length t₁ ≡ length t
-  passes_kept = ap length p.table
-
   -- the elements are all passed: the name is missing
   pub passes_all : n ≤ k → Absent w t t₁
   passes_all o = record { is = p.rest ∙ left_none x s a h n k o; table = p.table }

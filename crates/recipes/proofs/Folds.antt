@@ -5,9 +5,7 @@ use mathlib.Core.Path.{◌≡◌, refl, ◌∙◌}
 use mathlib.Core.List.{List, [], ◌∷◌}
 use native.Mathlib.Omega.{arith}
 use lib.ListN.{length}
-use Rattle.laws.specs.Order.{by_lt}
 use Rattle.array.specs.Split.{top_of}
-use Rattle.array.proofs.Splits.{top_is, place_of}
 use Rattle.named.specs.Combinators.{DROP, case, select}
 use Rattle.named.specs.Draws.{Draws}
 use Rattle.named.specs.declared.node.Pen.{Pen}
@@ -24,24 +22,15 @@ pub doubling_first : (r : ℕ) (t : List ℕ) (p : Pen) (f k : ℕ) → Doubling
 doubling_first r t p f k = record { kept = refl; onto = λ s u d. d }
 
 module _ {r f₀ k₀ f : ℕ} {t₀ t : List ℕ} {p₀ p : Pen} where
-  pub doubling_next : {t₁ t₂ : List ℕ} {q s : Pen} (k : ℕ) → Doubling r t₀ p₀ f₀ k₀ t p f k → 0 < k → Draws r t p (next_array r f) q t₁ → Draws r t₁ q (next_fold r q.root p.root) s t₂ → Doubling r t₀ p₀ f₀ k₀ t₂ s q.root (k - 1)
+  pub doubling_next : {t₁ t₂ : List ℕ} {q s : Pen} (k : ℕ) {j : ℕ} → Doubling r t₀ p₀ f₀ k₀ t p f k → 0 < k → j ≡ k - 1 → Draws r t p (next_array r f) q t₁ → Draws r t₁ q (next_fold r q.root p.root) s t₂ → Doubling r t₀ p₀ f₀ k₀ t₂ s q.root j
   unfolding doubled
-  doubling_next zero g o a b = absurd (omega arith)
-  doubling_next (suc k) g o a b =
-      let z : suc k - 1 ≡ k = omega arith in
-      record { kept = b.kept ∙ a.kept ∙ g.kept; onto = λ s u d. g.onto s u (draw_then _ a (draw_then _ b (rw z at d))) }
+  doubling_next zero g o z a b = absurd (omega arith)
+  doubling_next (suc k) {j} g o z a b =
+      let e : j ≡ k = omega arith in
+      record { kept = b.kept ∙ a.kept ∙ g.kept; onto = λ s u d. g.onto s u (draw_then _ a (draw_then _ b (rw e at d))) }
 
   -- none is left, and the first two nodes come before
   pub list_whole : {t₁ t₂ : List ℕ} {q s : Pen} (n k : ℕ) → Doubling r t₀ p₀ f₀ k₀ t p f k → k ≤ 0 → k₀ ≡ top_of n - 1 → Draws r t₁ q (select r (DROP ∷ [])) s t₂ → Draws r t₂ s (case r s.root f₀) p₀ t₀ → Draws r t₁ q (list_fold r n f₀) p t
   unfolding list_fold doubled
   list_whole n zero g o e a b = draw_then _ a (draw_then _ b (rw e at (g.onto p t (draw_pure r t p))))
   list_whole n (suc k) g o e a b = absurd (omega arith)
-
--- a bound of 2 or more has a place for its doublings
-pub top_some : (n k : ℕ) → 2 ≤ n → k ≡ top_of n → 1 ≤ k
-top_some n k h e =
-    let p = place_of (suc n) (omega arith) in
-    let q : top_of n ≡ p.place = top_is p.place n (omega (arith, p.over)) (omega (arith, p.fits)) in
-    by_lt 0 p.place (λ o. omega arith) (λ o.
-    let z : p.place ≡ 0 = omega arith in
-    absurd (omega (arith, rw z at p.fits)))

@@ -1,16 +1,16 @@
 -- Laws of the loop's tasks: a row filled by doubling, and that the tasks from the end on are the loop.
 -- Assumes nothing.
-use Prim.Native.Nat.{ℕ, zero, suc, ◌+◌, ◌-◌, ◌*◌, ◌^◌, ◌≤◌, ◌<◌}
-use mathlib.Core.Path.{◌≡◌, refl, sym, ap, ap₂, ◌∙◌}
-use mathlib.Core.List.{List, [], ◌∷◌, ◌++◌, append_assoc}
+use Prim.Native.Nat.{ℕ, zero, suc, ◌+◌, ◌-◌, ◌*◌, ◌%◌, ◌^◌, ◌≤◌, ◌<◌}
+use mathlib.Core.Path.{◌≡◌, sym, ap, ap₂, ◌∙◌}
+use mathlib.Core.List.{List, [], ◌∷◌, ◌++◌}
 use native.Mathlib.Nat.{two-pow-succ}
 use native.Mathlib.Numerals.{add-one}
 use native.Mathlib.Omega.{arith}
-use lib.Pow.{pow_pos}
-use lib.ListN.{length, get_or, set, take, drop, length-set}
-use lib.Seq.{paste, paste-suc, length-paste, take-paste, take_at, take-suc-set, get_or-take, length-take-le, drop-cons, drop-length}
+use lib.Pow.{pow_pos, pow_mono}
+use lib.ListN.{length, get_or, take, drop}
+use lib.Seq.{get_or-take, length-take-le, drop-cons, drop-length}
+use Rattle.laws.specs.Order.{pow_less}
 use Rattle.array.specs.Split.{top_of}
-use Rattle.array.proofs.Splits.{top_is}
 use Rattle.named.specs.Trace.{Run, bind}
 use Rattle.named.specs.Draws.{Draws}
 use Rattle.named.specs.declared.node.Pen.{Pen}
@@ -30,60 +30,31 @@ module _ {r : ℕ} {t t' : List ℕ} {p q : Pen} (x : Task) (f : ℕ) where
   unfolding task
   task_adapt e d = rw e d
 
--- the first n tasks, pasted behind themselves one by one
-module _ (row xs : List Task) (n : ℕ) (fits : 2 * n < length row) where
-  pasted_at : (k : ℕ) → k < n → get_or (paste row n row k) k ForWhile0 ≡ get_or row k ForWhile0
-  pasted_at k h =
-      let e : take n (paste row n row k) ≡ take n row = rw append_assoc (take_at (take n row) (take k row ++ drop (n + k) row) n (length-take-le n row (omega arith))) in
-      sym (get_or-take n (paste row n row k) k ForWhile0 h) ∙ ap (λ (ys : List Task). get_or ys k ForWhile0) e ∙ get_or-take n row k ForWhile0 h
+-- a width that is a power of two is not 0, and up to 16 its place is at most 4
+pub width_some : {w : ℕ} → w ≡ 2 ^ top_of w → 0 < w
+width_some {w} e = omega (arith, pow_pos (top_of w))
 
-  pub twice_again : (k : ℕ) → k < n → xs ≡ paste row n row k → set xs (n + k) (get_or xs k ForWhile0) ≡ paste row n row (k + 1)
-  twice_again k h e = rw (e, pasted_at k h, add-one) (paste-suc row n row k ForWhile0 (omega arith) (omega arith))
+pub width_few : {w k : ℕ} → w ≡ 2 ^ top_of w → w ≤ 16 → k ≡ top_of w → k ≤ 4
+width_few {w} e h z = omega (arith, pow_less (top_of w) 5 (omega arith))
 
-  pub twice_done : (k : ℕ) → k ≤ n → n ≤ k → xs ≡ paste row n row k → Twice n row (set xs (2 * n) Adapt)
-  twice_done k a b o =
-      let z : k ≡ n = omega arith in
-      let e : xs ≡ paste row n row n = rw z at o in
-      let l : length xs ≡ length row = ap length e ∙ length-paste row n row n (omega arith) (omega arith) in
-      let d : 2 * n ≡ n + n = omega arith in
-      record {
-        kept = length-set xs (2 * n) Adapt ∙ l;
-        row = rw (add-one, take-suc-set xs (2 * n) Adapt (omega arith), d, e, take-paste row n row n (omega arith) (omega arith));
-      }
+-- how many tasks a loop has and one more, where its width is 2 ^ k
+pub record Few (k : ℕ) : Type 0 where
+  pub is : 2 * 2 ^ k % 18446744073709551616 ≡ 2 * 2 ^ k
+  pub some : 0 < 2 ^ k
+  pub few : 2 ^ k ≤ 8
 
--- the row holds the tasks of a loop of half the width i, which is a power of two up to twice the width
-pub record Holds (i width : ℕ) (xs : List Task) : Type 0 where
-  pub place : ℕ
-  pub power : i ≡ 2 ^ suc place
-  pub some : 2 ≤ i
-  pub most : i ≤ 2 * width
-  pub row : take (i - 1) xs ≡ tasks place
+pub few_tasks : (k : ℕ) → k < 4 → Few k
+few_tasks k h = let l : 2 ^ k ≤ 8 = pow_mono {i = k} {j = 3} (omega arith) in record { is = omega arith; some = pow_pos k; few = l }
 
-module _ (width : ℕ) where
-  pub holds_first : (xs : List Task) → width ≡ 2 ^ top_of width → Holds 2 width (ForWhile0 ∷ xs)
-  unfolding tasks
-  holds_first xs e = record { place = 0; power = refl; some = omega arith; most = omega (arith, pow_pos (top_of width)); row = refl }
-
-  pub holds_again : (i : ℕ) (xs ys : List Task) → i ≤ width → Holds i width xs → Twice (i - 1) xs ys → Holds (i * 2) width ys
-  unfolding tasks
-  holds_again i xs ys h o e =
-      let p : 2 ^ suc (suc o.place) ≡ 2 ^ suc o.place + 2 ^ suc o.place = two-pow-succ (suc o.place) in
-      let z : i * 2 - 1 ≡ 2 * (i - 1) + 1 = omega (arith, o.some) in
-      record {
-        place = suc o.place;
-        power = omega (arith, o.power);
-        some = omega (arith, o.some);
-        most = omega arith;
-        row = rw (z, e.row, o.row);
-      }
-
-  pub holds_all : (i : ℕ) (xs : List Task) → width < i → width ≡ 2 ^ top_of width → Holds i width xs → take (2 * width - 1) xs ≡ tasks (top_of width)
-  holds_all i xs h e o =
-      let s : 2 ^ suc o.place ≡ 2 ^ o.place + 2 ^ o.place = two-pow-succ o.place in
-      let q : top_of width ≡ o.place = top_is o.place width (omega (arith, o.power, o.most)) (omega (arith, o.power)) in
-      let w : width ≡ 2 ^ o.place = e ∙ ap (λ (j : ℕ). 2 ^ j) q in
-      let z : 2 * width - 1 ≡ i - 1 = omega (arith, o.power) in
-      rw (z, q) o.row
+-- a row that begins with the tasks of a width begins, once it is doubled, with those of twice the width
+pub tasks_again : {xs ys : List Task} (k : ℕ) → k < 4 → take (2 * 2 ^ k - 1) xs ≡ tasks k → Twice (2 * 2 ^ k % 18446744073709551616 - 1) xs ys → take (2 * 2 ^ (k + 1) - 1) ys ≡ tasks (k + 1)
+unfolding tasks
+tasks_again {xs} {ys} k h o t =
+    let f = few_tasks k h in
+    let d : 2 ^ suc k ≡ 2 ^ k + 2 ^ k = two-pow-succ k in
+    let n : 2 * 2 ^ suc k - 1 ≡ 2 * (2 * 2 ^ k - 1) + 1 = omega (arith, f.some) in
+    let g : Twice (2 * 2 ^ k - 1) xs ys = rw f.is at t in
+    rw (add-one k, n, g.row, o)
 
 module _ (r : ℕ) where
   -- tasks behind others are done before them

@@ -14,7 +14,8 @@ fn beside_unit(nodes: &mut [u8], place: u16, pen: Pen) -> Pen
     put(nodes, place, unit, PAIR, input.root, unit.root)
 }
 
-// The left side of a sum.
+// The left side of a sum. It and the right side stay two functions: the child and the symbol of their asserts stand the other way
+// round, so that one for both would choose by a parameter in its body and in its promise.
 pub fn unwrap_left(nodes: &mut [u8], place: u16, pen: Pen) -> Pen
     ensures { Draws place nodes.old pen (unwrap_left place) result nodes.new }
 {

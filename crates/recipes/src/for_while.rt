@@ -1,9 +1,10 @@
 // The loop over a counter: the original's row of tasks, done from its end on.
-ghost use Rattle.std.specs.Prelude.{◌≡◌, ◌-◌, ◌*◌, ◌^◌, ◌<◌, ◌≤◌, take};
+ghost use Rattle.std.specs.Prelude.{◌≡◌, ◌-◌, ◌*◌, ◌^◌, ◌<◌, ◌≤◌, length, take};
 ghost use Rattle.array.specs.Split.{top_of};
 ghost use Rattle.named.specs.Draws.{Draws};
 ghost use Rattle.recipes.specs.ForWhile.{turn, for_while0, adapt, for_while, task, tasks, Twice};
 
+use array::top;
 use named::build::{bit, select};
 use named::node::{CASE, COMP, DROP, INJL, PAIR, Pen, TAKE, put};
 
@@ -73,34 +74,23 @@ fn step(nodes: &mut [u8], place: u16, pen: Pen, next: Task) -> Pen
 }
 
 // The first tasks of the row once more behind themselves, and then an adapt.
-fn twice(row: [Task; 31], count: usize) -> [Task; 31]
-    requires { 2 * count < 31 }
-    ensures { Twice count row result }
+fn twice(row: &mut [Task], count: usize)
+    requires { 2 * count < length row.old }
+    ensures { Twice count row.old row.new }
 {
-    let mut stack = row;
-    let mut k = 0;
-    while k < count {
-        stack[count + k] = stack[k];
-        k += 1;
-    }
-    stack[2 * count] = Task::Adapt;
-    stack
+    row.copy_within(..count, count);
+    row[2 * count] = Task::Adapt;
 }
 
-// The tasks of a loop over a counter of a width, which stand first in the row: from one bit on, those of a width are made of those of
-// half of it.
-fn filled(width: usize) -> [Task; 31]
-    requires width_is { width ≡ 2 ^ top_of width }
-    requires width_in_range { width ≤ 16 }
-    ensures { take (2 * width - 1) result ≡ tasks (top_of width) }
+// The tasks of a loop over a counter of width 2 to the power, which stand first in the row: from one bit on, those of a width are made
+// of those of half of it.
+fn filled(power: u32) -> [Task; 31]
+    requires { power ≤ 4 }
+    ensures { take (2 * 2 ^ power - 1) result ≡ tasks power }
 {
-    let first = Task::ForWhile0;
-    let mut stack = [first; 31];
-    let mut i = 2;
-    while i <= width {
-        let longer = twice(stack, i - 1);
-        stack = longer;
-        i *= 2;
+    let mut stack = [Task::ForWhile0; 31];
+    for k in 0..power {
+        twice(&mut stack, (2 << k) - 1);
     }
     stack
 }
@@ -111,15 +101,9 @@ pub fn for_while(nodes: &mut [u8], place: u16, pen: Pen, width: u16, f: u16) -> 
     requires width_in_range { width ≤ 16 }
     ensures { Draws place nodes.old pen (for_while place (top_of width) f) result nodes.new }
 {
-    let stack = filled(width as usize);
-    let mut at = Pen {
-        next: pen.next,
-        root: f,
-        full: pen.full,
-    };
-    let mut k = 2 * (width as usize) - 1;
-    while 0 < k {
-        k -= 1;
+    let stack = filled(top(width as u32));
+    let mut at = Pen { root: f, ..pen };
+    for k in (0..2 * (width as usize) - 1).rev() {
         at = step(nodes, place, at, stack[k]);
     }
     at

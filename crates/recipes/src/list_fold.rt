@@ -62,12 +62,10 @@ pub fn list_fold(nodes: &mut [u8], place: u16, pen: Pen, bound: u16, f: u16) -> 
     let keep = select(nodes, place, pen, &i);
     let mut fold = put(nodes, place, keep, CASE, keep.root, f);
     let mut whole = f;
-    let mut doublings = top(bound as u32) - 1;
-    while 0 < doublings {
+    for _ in 1..top(bound as u32) {
         let block = next_f_array(nodes, place, fold, whole);
         fold = next_f_fold(nodes, place, block, block.root, fold.root);
         whole = block.root;
-        doublings -= 1;
     }
     fold
 }

@@ -5,7 +5,7 @@ use mathlib.Core.List.{List, [], ◌∷◌, map-append}
 use mathlib.Core.Option.{Option}
 use mathlib.Core.Path.{◌≡◌, refl, ap, ◌∙◌}
 use native.Mathlib.Omega.{arith}
-use lib.ListN.{length, get_or, replicate}
+use lib.ListN.{get_or, replicate}
 use Rattle.array.specs.Path.{Side, on_left, on_right}
 use Rattle.book.specs.Faults.{refusal}
 use Rattle.book.specs.declared.fault.Fault.TheVariants.{Undefined}
@@ -29,17 +29,11 @@ pub record Misses (w : Option (List Side)) (b i : List ℕ) (bs : List ℕ) (n x
   pub table : t₁ ≡ t
   pub rest : w ≡ lookup_below b i bs n at x
 
--- none passed yet: of those that it is to search; of all there are
-pub misses_none : (b i : List ℕ) (bs : List ℕ) (n x at : ℕ) (t : List ℕ) → at ≤ n → Misses (lookup_below b i bs n at x) b i bs n x at t t
-misses_none b i bs n x at t o = record { low = o; table = refl; rest = refl }
-
+-- none passed yet, of all there are
 pub misses_whole : (b i : List ℕ) (bs : List ℕ) (n x : ℕ) (t : List ℕ) → Misses (lookup x (newest b i bs n)) b i bs n x n t t
 misses_whole b i bs n x t = let z : n - n ≡ 0 = omega arith in record { low = omega arith; table = refl; rest = rw z }
 
 module _ {w : Option (List Side)} {b i : List ℕ} {bs : List ℕ} {n x at : ℕ} {t t₁ : List ℕ} (m : Misses w b i bs n x at t t₁) where
-  pub misses_kept : length t₁ ≡ length t
-  misses_kept = ap length m.table
-
   -- all passed: the name is not in scope
   pub misses_all : at ≤ 0 → Absent w t t₁
   unfolding newest lookup_from

@@ -21,22 +21,16 @@ use Rattle.compile.proofs.Facts.{head_is, head_less, in_span, does_stands, does_
 use borrow.Author.Rules.{rules}
 use Rattle.compile.proofs.cycle.+lowering.Goals as goal
 
-pub arm-returns-then-count-ge256 : goal.arm-returns-then-count-ge256
-arm-returns-then-count-ge256 t c = arm_full _ _ _ _ _ _ _ c.if-count-ge256.true
-
-pub arm-copied-requires : goal.arm-copied-requires
-arm-copied-requires t c = c.requires.1.1.row
-
-pub arm-insert-inner-requires : goal.arm-insert-inner-requires
-arm-insert-inner-requires t c = rw c.copied.ensures c.if-count-ge256.false
+pub arm-returns-then-scope-ge256 : goal.arm-returns-then-scope-ge256
+arm-returns-then-scope-ge256 t c = arm_full _ _ _ _ _ _ _ c.if-scope-ge256.true
 
 pub arm-expression-requires : goal.arm-expression-requires
 arm-expression-requires t c =
-    ((omega (arith, c.decreases)), (c.requires.1.0, inner_stands c.requires.1.1 c.if-count-ge256.false c.requires.0 (rw c.copied.ensures at c.insert-inner.ensures)))
+    ((omega (arith, c.decreases)), (c.requires.1.0, inner_stands c.requires.1.1 c.if-scope-ge256.false c.requires.0 c.insert-inner.ensures))
 
 pub arm-returns : goal.arm-returns
 arm-returns t c =
-    arm_done c.requires.1.1 c.if-count-ge256.false c.requires.0 (rw c.copied.ensures at c.insert-inner.ensures) _ _ _ c.expression.ensures
+    arm_done c.requires.1.1 c.if-scope-ge256.false c.requires.0 c.insert-inner.ensures _ _ _ c.expression.ensures
 
 pub begin-mark_at-requires : goal.begin-mark_at-requires
 begin-mark_at-requires t c = stands_begins c.requires.0
@@ -69,11 +63,8 @@ begin-returns-in-Refused t c =
 pub block-field_at-count-requires : goal.block-field_at-count-requires
 block-field_at-count-requires t c = lies c.requires.0 1 tt
 
-pub block-copied-own-requires : goal.block-copied-own-requires
-block-copied-own-requires t c = c.requires.1.row
-
 pub block-loop-k-init : goal.block-loop-k-init
-block-loop-k-init t c = rw c.copied-own.ensures (search rules, omega arith, c.requires.1, begun_start _ _ _ _ _ _ _ _ _ _ refl)
+block-loop-k-init t c = (search rules, omega arith, c.requires.1, begun_start _ _ _ _ _ _ _ _ _ _ refl)
 
 pub block-overflow_add-k : goal.block-overflow_add-k
 block-overflow_add-k t c = omega (arith, c.loop-k-test.true, most c.requires.0 1 tt refl, c.field_at-count.ensures)

@@ -3,7 +3,7 @@
 use Prim.Native.Nat.{◌+◌, ◌*◌, ◌-◌, ◌≤◌}
 use mathlib.Core.Path.{◌≡◌}
 use lib.ListN.{length}
-use Rattle.scope_bindings.specs.Scope.{scope_of, lent, ScopeStands}
+use Rattle.scope_bindings.specs.Scope.{scope_of, ScopeStands}
 use Rattle.compile.proofs.Steps.{Suffices}
 use Rattle.compile.proofs.Blocks.{Begun}
 use Rattle.compile.proofs.cycle.+lowering.Given as goal
@@ -19,7 +19,7 @@ decreases-block l = l.r * 16 + 13
 
 abbrev pub invariant-block-loop-k : goal.invariant-block-loop-k
 invariant-block-loop-k l =
-    (length l.begun ≡ 256) × (l.k ≤ l.count) × ScopeStands l.book.bytes l.book.index l.own × Begun l.symbols l.book.bytes l.book.index l.r l.count (scope_of l.book.bytes l.book.index (lent l.bindings l.live)) l.initial.nodes l.initial.at l.nodes l.at l.k (scope_of l.book.bytes l.book.index l.own) l.begun
+    (length l.begun ≡ 256) × (l.k ≤ l.count) × ScopeStands l.book.bytes l.book.index l.own × Begun l.symbols l.book.bytes l.book.index l.r l.count (scope_of l.book.bytes l.book.index l.scope) l.initial.nodes l.initial.at l.nodes l.at l.k (scope_of l.book.bytes l.book.index l.own) l.begun
 
 abbrev pub decreases-block-loop-k : goal.decreases-block-loop-k
 decreases-block-loop-k l = l.count - l.k
@@ -44,7 +44,7 @@ decreases-elements l = l.r * 16 + 11
 
 abbrev pub invariant-elements-loop-k : goal.invariant-elements-loop-k
 invariant-elements-loop-k l =
-    (length l.roots ≡ length l.initial.roots) × (l.k ≤ l.count) × Suffices l.symbols l.book.bytes l.book.index l.r l.m (scope_of l.book.bytes l.book.index (lent l.bindings l.live)) l.span.stride l.span.from l.count l.initial.nodes l.initial.at l.nodes l.at l.k l.roots
+    (length l.roots ≡ length l.initial.roots) × (l.k ≤ l.count) × Suffices l.symbols l.book.bytes l.book.index l.r l.m (scope_of l.book.bytes l.book.index l.scope) l.span.stride l.span.from l.count l.initial.nodes l.initial.at l.nodes l.at l.k l.roots
 
 abbrev pub decreases-elements-loop-k : goal.decreases-elements-loop-k
 decreases-elements-loop-k l = l.count - l.k

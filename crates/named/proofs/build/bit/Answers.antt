@@ -2,11 +2,12 @@
 -- Assumes nothing.
 use Rattle.named.proofs.Pens.{draw_then}
 use Rattle.named.proofs.Builds.{bit_true, bit_false}
-use borrow.Author.Rules.{rules}
 use Rattle.named.proofs.build.bit.Goals as goal
-
-pub returns-then-value : goal.returns-then-value
-returns-then-value c = bit_true (search rules) (search draw_then depth 6)
+use Rattle.named.proofs.build.bit.Goals.{then-value, else-value}
 
 pub returns : goal.returns
-returns c = bit_false (search rules) (search draw_then depth 6)
+returns c =
+    elim c.if-value.branch [
+      | then-value w ↦ bit_true w.if-value.true (draw_then _ c.put-unit.ensures (rw w.kind-is at c.put.ensures))
+      | else-value w ↦ bit_false w.if-value.false (draw_then _ c.put-unit.ensures (rw w.kind-is at c.put.ensures))
+    ]

@@ -10,19 +10,23 @@ returns-then-half-eq1 t c = search list_none
 
 pub list-rest-requires : goal.list-rest-requires
 list-rest-requires t c =
-    let h = power_halved _ c.requires.1.1 c.if-half-eq1.false in (omega (arith, h.less), (omega arith, (omega (arith, h.double), h.power)))
+    let h = power_halved _ c.requires.1 c.if-half-eq1.false in (omega (arith, h.less), (omega (arith, h.double), h.power))
 
-pub returns-then-count-half : goal.returns-then-count-half
-returns-then-count-half t c =
-    list_empty _ _ _ _ _ c.requires.0 c.requires.1.1 c.if-half-eq1.false c.if-count-half.true c.empty_block-block.ensures c.list-rest.ensures c.put.ensures
+pub returns-then-roots-half : goal.returns-then-roots-half
+returns-then-roots-half t c =
+    list_empty _ c.requires.1 c.if-half-eq1.false c.if-roots-half.true c.empty_block-block.ensures c.list-rest.ensures c.put.ensures
+
+pub filled_block-block-requires : goal.filled_block-block-requires
+filled_block-block-requires t c = omega (arith, c.requires.1.few)
 
 pub returns-then-half-eq1-2 : goal.returns-then-half-eq1-2
-returns-then-half-eq1-2 t c = search list_one
+returns-then-half-eq1-2 t c = list_one _ c.if-half-eq1-2.true c.if-roots-half.false c.requires.0 c.split_at.ensures.front c.filled_block-block.ensures
 
 pub list-rest-requires-2 : goal.list-rest-requires-2
 list-rest-requires-2 t c =
-    let h = power_halved _ c.requires.1.1 c.if-half-eq1-2.false in (omega (arith, h.less), (omega arith, (omega (arith, h.double), h.power)))
+    let h = power_halved _ c.requires.1 c.if-half-eq1-2.false in (omega (arith, h.less), (omega (arith, h.double, c.split_at.ensures.back_len), h.power))
 
 pub returns : goal.returns
 returns t c =
-    list_filled _ _ _ _ _ c.requires.0 c.requires.1.1 c.if-half-eq1-2.false c.if-count-half.false c.filled_block-block.ensures c.list-rest-2.ensures c.put-2.ensures
+    list_filled _ c.requires.1 c.if-half-eq1-2.false c.if-roots-half.false c.split_at.ensures.front c.split_at.ensures.back
+    c.filled_block-block.ensures c.list-rest-2.ensures c.put-2.ensures

@@ -2,12 +2,13 @@
 -- Assumes nothing.
 use native.Mathlib.Omega.{arith}
 use mathlib.Core.Path.{refl, ◌∙◌}
+use Rattle.named.proofs.Pens.{handed}
 use Rattle.parts.proofs.Spans.{stmt_lies, stmt_stands}
 use Rattle.parts.proofs.Ends.{close_none, close_next, close_halt}
 use Rattle.parts.proofs.part.close_all.Goals as goal
 
 pub loop-k-init : goal.loop-k-init
-loop-k-init c = (omega arith, refl, λ s t d. d)
+loop-k-init c = (refl, λ s t d. d)
 
 pub field_at-s-requires : goal.field_at-s-requires
 field_at-s-requires c = stmt_lies c.requires.marked _ (omega (arith, c.requires.count_is))
@@ -17,11 +18,11 @@ close-requires c = stmt_stands c.requires.marked _ (omega (arith, c.requires.cou
 
 pub loop-k-preserved : goal.loop-k-preserved
 loop-k-preserved c =
-    (omega arith, c.close.ensures.kept ∙ c.loop-k.invariant.1, λ s t d. c.loop-k.invariant.2 s t (close_next _ _ _ _ _ _ _ _ (omega arith) c.field_at-s.ensures c.close.ensures _ _ c.in-Node.is s t d))
+    (c.in_ok-rest.ensures.kept ∙ c.loop-k.invariant.0, λ s t d. c.loop-k.invariant.1 s t (close_next _ _ _ _ _ _ _ _ (omega arith) c.field_at-s.ensures c.in_ok-rest.ensures s t d))
 
-pub returns-in-Refused : goal.returns-in-Refused
-returns-in-Refused c =
-    c.loop-k.invariant.2 _ _ (close_halt _ _ _ _ _ _ _ _ (omega arith) c.field_at-s.ensures c.close.ensures _ c.in-Refused.is)
+pub returns-in_err-rest : goal.returns-in_err-rest
+returns-in_err-rest c =
+    rw (handed c.from_residual.ensures.1) (c.loop-k.invariant.1 _ _ (close_halt _ _ _ _ _ _ _ _ (omega arith) c.field_at-s.ensures c.in_err-rest.ensures))
 
 pub returns : goal.returns
-returns c = c.loop-k.invariant.2 _ _ (close_none _ _ _ _ _ _ c.loop-k-test.false)
+returns c = c.loop-k.invariant.1 _ _ (close_none _ _ _ _ _ _ c.loop-k-test.false)

@@ -4,7 +4,7 @@ use Rattle.parts.specs.Joins.{finished}
 use borrow.Author.Tests.{lt-ltb, le-ltb}
 use Rattle.named.proofs.Pens.{closes}
 use Rattle.parts.proofs.part.finish.Goals as goal
-use Rattle.parts.proofs.part.finish.Goals.{then-symbols+else-symbol-gt0, else-symbols}
+use Rattle.parts.proofs.part.finish.Goals.{else-symbols-via-then-symbols+else-symbol-gt0, else-symbols-via-else-symbols}
 
 pub returns-then-symbol-gt0 : goal.returns-then-symbol-gt0
 unfolding finished
@@ -13,7 +13,7 @@ returns-then-symbol-gt0 c = rw (c.if-symbols.true, ← c.symbol_of-symbol.ensure
 pub returns : goal.returns
 unfolding finished
 returns c =
-    elim c.if-symbols.branch [
-      | then-symbols+else-symbol-gt0 w ↦ rw (w.if-symbols.true, ← c.symbol_of-symbol.ensures, le-ltb 0 _ w.if-symbol-gt0.false) (search closes)
-      | else-symbols w ↦ rw w.if-symbols.false (search closes)
+    elim c.else-symbols.branch [
+      | else-symbols-via-then-symbols+else-symbol-gt0 w ↦ rw (w.if-symbols.true, ← c.symbol_of-symbol.ensures, le-ltb 0 _ w.if-symbol-gt0.false) (search closes)
+      | else-symbols-via-else-symbols w ↦ rw w.if-symbols.false (search closes)
     ]

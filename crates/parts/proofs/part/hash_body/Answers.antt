@@ -1,7 +1,8 @@
 -- `hash_body` meets its contract: the row of widths, and then the hash of it.
 -- Assumes nothing.
 use native.Mathlib.Omega.{arith}
-use mathlib.Core.Path.{refl}
+use mathlib.Core.Path.{refl, sym, ◌∙◌}
+use lib.Seq.{length-take-le}
 use Rattle.builtins.specs.RawHash as hashes
 use Rattle.parts.specs.Parts.{plain_run}
 use Rattle.parts.proofs.Marks.{lies, most}
@@ -9,20 +10,26 @@ use Rattle.parts.proofs.Ends.{widths_add, widths_row_lem, closes_at}
 use Rattle.parts.proofs.part.hash_body.Goals as goal
 
 pub field_at-count-requires : goal.field_at-count-requires
-unfolding plain_run
 field_at-count-requires c = lies c.requires 2 tt
 
-pub widths_of-requires : goal.widths_of-requires
-unfolding plain_run
-widths_of-requires c =
-    record { marked = c.requires; count_is = c.field_at-count.ensures; count_fits = omega (arith, most c.requires 2 tt refl, c.field_at-count.ensures) }
+pub slice_bounds-row-end : goal.slice_bounds-row-end
+slice_bounds-row-end c = omega (arith, most c.requires 2 tt refl, c.field_at-count.ensures)
 
-pub raw_hash-hash-requires : goal.raw_hash-hash-requires
-unfolding plain_run
-raw_hash-hash-requires c =
-    record { count_fits = c.widths_of.ensures.fits; count_in_range = omega (arith, most c.requires 2 tt refl, c.field_at-count.ensures); widths = record { each = widths_add c.requires c.field_at-count.ensures c.widths_of.ensures } }
+pub slice_bounds-widths-end : goal.slice_bounds-widths-end
+slice_bounds-widths-end c = sym (length-take-le c.field_at-count.result _ (omega (arith, most c.requires 2 tt refl, c.field_at-count.ensures)))
+
+pub widths_of-requires-clause-count_is : goal.widths_of-requires-clause-count_is
+widths_of-requires-clause-count_is c =
+    length-take-le c.field_at-count.result _ (omega (arith, most c.requires 2 tt refl, c.field_at-count.ensures)) ∙ c.field_at-count.ensures
+
+pub raw_hash-requires-clause-count_in_range : goal.raw_hash-requires-clause-count_in_range
+raw_hash-requires-clause-count_in_range c = omega (arith, most c.requires 2 tt refl, c.widths_of.ensures.count)
+
+pub raw_hash-requires-clause-widths : goal.raw_hash-requires-clause-widths
+raw_hash-requires-clause-widths c = record { each = widths_add c.requires c.widths_of.ensures.count c.widths_of.ensures.widths }
 
 pub returns : goal.returns
 unfolding plain_run
 returns c =
-    closes_at (λ ws. hashes.raw_hash c.args.r ws) (widths_row_lem _ _ _ _ _ _ c.field_at-count.ensures c.widths_of.ensures) c.pen_at.ensures c.raw_hash-hash.ensures c.answer_of.ensures
+    closes_at (λ ws. hashes.raw_hash c.args.r ws) (widths_row_lem _ _ _ _ c.widths_of.ensures.count c.widths_of.ensures.widths)
+    c.pen_at.ensures c.raw_hash.ensures c.answer_of.ensures

@@ -1,7 +1,6 @@
 -- `variant` meets its contract: the payload is there already, and its path is drawn around it.
 -- Assumes nothing.
 use native.Mathlib.Omega.{arith}
-use mathlib.Core.Path.{refl}
 use Rattle.named.proofs.Pens.{closes}
 use Rattle.parts.specs.Parts.{wrap_run}
 use Rattle.parts.proofs.Marks.{lies}
@@ -23,4 +22,4 @@ along-whole-requires c = (omega (arith, variant_under c.requires), omega (arith,
 pub returns : goal.returns
 unfolding wrap_run
 returns c =
-    rw (← c.field_at-n.ensures, ← c.field_at-k.ensures) (closes (record { next = refl; full = refl }) c.along-whole.ensures c.answer_of.ensures)
+    rw (← c.field_at-n.ensures, ← c.field_at-k.ensures) (closes (record { next = c.pen_at.ensures.next; full = c.pen_at.ensures.full }) c.along-whole.ensures c.answer_of.ensures)

@@ -5,10 +5,10 @@ use Rattle.book.specs.Format.{CJ}
 use Rattle.parts.specs.Parts.{is_call}
 use Rattle.parts.proofs.view.is_call.Goals as goal
 
-pub returns-then-m-lt-CJ : goal.returns-then-m-lt-CJ
+pub returns-then-m-ge-CJ : goal.returns-then-m-ge-CJ
 unfolding is_call
-returns-then-m-lt-CJ c = rw (lt-leb CJ _ c.if-m-lt-CJ.true)
+returns-then-m-ge-CJ c = rw (le-leb CJ _ c.if-m-ge-CJ.true)
 
-pub returns : goal.returns
+pub returns-else-m-ge-CJ : goal.returns-else-m-ge-CJ
 unfolding is_call
-returns c = rw (le-leb CJ _ c.if-m-lt-CJ.false)
+returns-else-m-ge-CJ c = rw (lt-leb CJ _ c.if-m-ge-CJ.false)

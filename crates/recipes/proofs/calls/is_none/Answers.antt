@@ -1,15 +1,8 @@
 -- `is_none` meets its contract: its nodes in order.
 -- Assumes nothing.
-use mathlib.Core.Path.{◌∙◌}
 use Rattle.recipes.specs.Calls.{is_none}
 use Rattle.named.proofs.Pens.{draw_then}
 use Rattle.recipes.proofs.calls.is_none.Goals as goal
-
-pub shape_of-nodes : goal.shape_of-nodes
-unfolding is_none
-shape_of-nodes c =
-    c.put.ensures.kept ∙ c.put-choice.ensures.kept ∙ c.bit-no.ensures.kept ∙ c.bit-yes.ensures.kept
-    ∙ c.beside_unit-input.ensures.kept
 
 pub returns : goal.returns
 unfolding is_none

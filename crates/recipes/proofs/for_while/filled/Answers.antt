@@ -1,14 +1,20 @@
 -- `filled` meets its contract: each row is made of the one before.
 -- Assumes nothing.
-use Rattle.recipes.proofs.Loops.{holds_first, holds_again, holds_all}
-use borrow.Author.Rules.{rules}
+use mathlib.Core.Path.{◌≡◌, refl}
+use native.Mathlib.Omega.{arith}
+use Rattle.recipes.specs.ForWhile.{tasks}
+use Rattle.recipes.proofs.Loops.{few_tasks, tasks_again}
 use Rattle.recipes.proofs.for_while.filled.Goals as goal
 
-pub loop-i-init : goal.loop-i-init
-loop-i-init c = holds_first _ _ (search rules)
+pub loop-k-init : goal.loop-k-init
+unfolding tasks
+loop-k-init c = refl
 
-pub loop-i-preserved : goal.loop-i-preserved
-loop-i-preserved c = search (holds_again, rules)
+pub twice-requires : goal.twice-requires
+twice-requires c = let h = few_tasks c.loop-k.k (omega arith) in omega (arith, h.is, h.few)
+
+pub loop-k-preserved : goal.loop-k-preserved
+loop-k-preserved c = tasks_again _ (omega arith) c.loop-k.invariant c.twice.ensures
 
 pub returns : goal.returns
-returns c = search (holds_all, rules)
+returns c = let z : c.loop-k.k ≡ c.args.power = omega arith in rw z at c.loop-k.invariant

@@ -2,22 +2,23 @@
 -- Assumes nothing.
 use mathlib.Core.Path.{refl}
 use Prim.Native.Nat.{◌-◌, ◌*◌}
-use lib.Pow.{pow_pos}
 use native.Mathlib.Omega.{arith}
-use Rattle.array.specs.Split.{top_of}
-use Rattle.recipes.proofs.Loops.{done_none, done_next, loop_all}
+use Rattle.recipes.proofs.Loops.{width_some, width_few, done_none, done_next, loop_all}
 use borrow.Author.Rules.{rules}
 use Rattle.recipes.proofs.for_while.for_while.Goals as goal
 
-pub overflow_sub-k : goal.overflow_sub-k
-overflow_sub-k c = omega (arith, pow_pos (top_of c.args.width))
+pub top-requires : goal.top-requires
+top-requires c = width_some c.requires.width_is
+
+pub filled-stack-requires : goal.filled-stack-requires
+filled-stack-requires c = width_few c.requires.width_is c.requires.width_in_range c.top.ensures
 
 pub loop-k-init : goal.loop-k-init
-loop-k-init c = (omega arith, done_none c.filled-stack.result (2 * c.args.width - 1) (search rules))
+loop-k-init c = done_none c.filled-stack.result (2 * c.args.width - 1) (search rules)
 
 pub loop-k-preserved : goal.loop-k-preserved
 loop-k-preserved c =
-    (omega arith, done_next c.filled-stack.result (2 * c.args.width - 1) (search rules) _ c.loop-k.k (search rules) (search rules) refl c.loop-k.invariant.1 c.step-at.ensures)
+    done_next c.filled-stack.result (2 * c.args.width - 1) (search rules) _ c.loop-k.k (search rules) (search rules) refl c.loop-k.invariant c.step-at.ensures
 
 pub returns : goal.returns
-returns c = loop_all _ c.loop-k.k _ _ (omega arith) c.filled-stack.ensures c.loop-k.invariant.1
+returns c = loop_all _ c.loop-k.k _ _ (omega arith) (rw (c.top.ensures, ← c.requires.width_is) at c.filled-stack.ensures) c.loop-k.invariant

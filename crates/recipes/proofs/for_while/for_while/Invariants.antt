@@ -1,6 +1,5 @@
 -- `for_while` meets its contract: the tasks from the end on are the loop.
 -- Assumes nothing.
-use Prim.Native.Nat.{◌≤◌}
 use lib.ListN.{take, drop}
 use Rattle.named.specs.Draws.{Draws}
 use Rattle.recipes.specs.ForWhile.{done_from}
@@ -8,7 +7,4 @@ use Rattle.recipes.proofs.for_while.for_while.Given as goal
 
 abbrev pub invariant-loop-k : goal.invariant-loop-k
 invariant-loop-k l =
-    (l.k ≤ l.initial.k) × Draws l.place l.initial.nodes l.initial.at (done_from l.place (drop l.k (take l.initial.k l.stack)) l.initial.at.root) l.at l.nodes
-
-abbrev pub decreases-loop-k : goal.decreases-loop-k
-decreases-loop-k l = l.k
+    Draws l.place l.initial.nodes l.initial.at (done_from l.place (drop l.k (take l.initial.k l.stack)) l.initial.at.root) l.at l.nodes

@@ -1,15 +1,8 @@
 -- `next_f_array` meets its contract: its nodes in order.
 -- Assumes nothing.
-use mathlib.Core.Path.{◌∙◌}
 use Rattle.recipes.specs.ListFold.{next_array}
 use Rattle.named.proofs.Pens.{draw_then}
 use Rattle.recipes.proofs.list_fold.next_f_array.Goals as goal
-
-pub shape_of-nodes : goal.shape_of-nodes
-unfolding next_array
-shape_of-nodes c =
-    c.applied.ensures.kept ∙ c.select-second.ensures.kept ∙ c.applied-middle.ensures.kept ∙ c.select-start.ensures.kept
-    ∙ c.select-first.ensures.kept
 
 pub returns : goal.returns
 unfolding next_array
