@@ -20,17 +20,18 @@ leads_cell n t hs q f = leads_cell' q.full n t hs q f refl
 
 -- one cell: nothing more is stored, or there is room for it, or there is none
 module _ (t : List ℕ) (p : Kept) (k a b : ℕ) where
-  pub keep_shut : p.full ≡ true → Keeps t p (λ n. store n k a b) (record { cell = p.cell; used = p.used; full = true }) t
+  pub keep_shut : p.full ≡ true → Keeps t p (λ n. store n k a b) p t
   unfolding leads bind
   keep_shut e = record { same = λ n hs. rw e }
 
-  pub keep_fits : p.full ≡ false → p.used < room (length t) → Keeps t p (λ n. store n k a b) (record { cell = p.used; used = p.used + 1; full = false }) (put t p.used k a b)
-  unfolding leads bind store
-  keep_fits e h = record { same = λ n hs. rw (e, lt-ltb p.used (room (length t)) h, add_none) }
+  module _ {t' : List ℕ} (e : p.full ≡ false) where
+    pub keep_fits : (p.used < room (length t)) × (t' ≡ put t p.used k a b) → Keeps t p (λ n. store n k a b) (record { cell = p.used; used = p.used + 1; full = false }) t'
+    unfolding leads bind store
+    keep_fits h = record { same = λ n hs. rw (e, lt-ltb p.used (room (length t)) h.0, h.1, add_none) }
 
-  pub keep_none : p.full ≡ false → room (length t) ≤ p.used → Keeps t p (λ n. store n k a b) (record { cell = p.cell; used = p.used; full = true }) t
-  unfolding leads bind store
-  keep_none e h = record { same = λ n hs. rw (e, le-ltb p.used (room (length t)) h, add_none) }
+    pub keep_none : (room (length t) ≤ p.used) × (t' ≡ t) → Keeps t p (λ n. store n k a b) (record { cell = p.cell; used = p.used; full = true }) t'
+    unfolding leads bind store
+    keep_none h = record { same = λ n hs. rw (e, le-ltb p.used (room (length t)) h.0, add_none) }
 
 -- one thing after another, which is made of the first one's last cell
 pub keep_then : (k : ℕ → ℕ → World → Out) {t t₁ t₂ : List ℕ} {p q r : Kept} {m : ℕ → World → Out} → Keeps t p m q t₁ → Keeps t₁ q (λ n. k n q.cell) r t₂ → Keeps t p (λ n w. bind (m n w) (k n)) r t₂

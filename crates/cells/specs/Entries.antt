@@ -1,6 +1,7 @@
 -- Tables of five bytes an entry: a kind, then two numbers of two bytes, low byte first. Nodes and cells are both held so.
 -- Past a table's end a byte reads as 0. Assumes nothing.
-use Rattle.std.specs.Prelude.{ℕ, ◌+◌, ◌*◌, ◌/◌, ◌%◌, List, set, slice_index, slice_set}
+use Rattle.std.specs.Prelude.{ℕ, ◌+◌, ◌*◌, List, slice_index}
+pub use Rattle.named.specs.Entry.{put}
 
 -- document 01, Stored order: entry n's kind, and its two numbers
 unfoldable pub kind_at : List ℕ → ℕ → ℕ
@@ -11,11 +12,3 @@ left_at t n = slice_index t (5 * n + 1) + 256 * slice_index t (5 * n + 2)
 
 unfoldable pub right_at : List ℕ → ℕ → ℕ
 right_at t n = slice_index t (5 * n + 3) + 256 * slice_index t (5 * n + 4)
-
--- the table whose entry n is made of the kind k and the numbers a and b
-unfoldable pub put : List ℕ → ℕ → ℕ → ℕ → ℕ → List ℕ
-put t n k a b =
-    set
-    (slice_set (slice_set (slice_set (slice_set t (5 * n) k) (5 * n + 1) (a % 256)) (5 * n + 2) (a / 256)) (5 * n + 3) (b % 256))
-    (5 * n + 4)
-    (b / 256)

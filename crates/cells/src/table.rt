@@ -6,6 +6,7 @@ ghost use Rattle.cells.specs.Cells.{store};
 ghost use Rattle.cells.specs.Keeping.{Fresh, Keeps};
 
 use book::word::word;
+use named::entry::write_entry;
 
 // The kinds of cells: document 01, CHECK and the meanings.
 pub const UNIT: u8 = 1;
@@ -29,7 +30,7 @@ pub struct Kept {
 fn byte(t: &[u8], i: usize) -> u8
     ensures { result ≡ slice_index t.now i }
 {
-    if i < t.len() { t[i] } else { 0 }
+    t.get(i).copied().unwrap_or(0)
 }
 
 // The two bytes at i and after it as a number. Where both are there, one test is enough.
@@ -38,9 +39,10 @@ fn pair_at(t: &[u8], i: usize) -> u16
     ensures { result ≡ word_at t.now i }
 {
     if i + 1 < t.len() {
-        return word(t, i);
+        word(t, i)
+    } else {
+        byte(t, i) as u16
     }
-    byte(t, i) as u16
 }
 
 pub fn kind_at(t: &[u8], n: u16) -> u8
@@ -67,7 +69,7 @@ pub fn from(used: u16) -> Kept
 {
     Kept {
         cell: 0,
-        used: used,
+        used,
         full: false,
     }
 }
@@ -77,30 +79,14 @@ pub fn keep(cells: &mut [u8], p: Kept, kind: u8, a: u16, b: u16) -> Kept
     ensures { Keeps cells.old p (λ n. store n kind a b) result cells.new }
 {
     if p.full {
-        return Kept {
-            cell: p.cell,
-            used: p.used,
-            full: true,
-        };
-    }
-    let at = 5 * (p.used as usize);
-    if p.used < 65535 {
-        if at + 5 <= cells.len() {
-            cells[at] = kind;
-            cells[at + 1] = (a % 256) as u8;
-            cells[at + 2] = (a / 256) as u8;
-            cells[at + 3] = (b % 256) as u8;
-            cells[at + 4] = (b / 256) as u8;
-            return Kept {
-                cell: p.used,
-                used: p.used + 1,
-                full: false,
-            };
+        p
+    } else if write_entry(cells, p.used, kind, a, b) {
+        Kept {
+            cell: p.used,
+            used: p.used + 1,
+            full: false,
         }
-    }
-    Kept {
-        cell: p.cell,
-        used: p.used,
-        full: true,
+    } else {
+        Kept { full: true, ..p }
     }
 }

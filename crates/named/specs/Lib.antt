@@ -1,4 +1,5 @@
 pub mod Trace
 pub mod Combinators
 pub mod Cut
+pub mod Entry
 pub mod Draws

@@ -1,0 +1,21 @@
+// Tables of five bytes an entry: nodes and cells are both held so.
+ghost use Rattle.std.specs.Prelude.{◌≡◌, ◌<◌, ◌≤◌, length, true, false};
+ghost use Rattle.named.specs.Cut.{room};
+ghost use Rattle.named.specs.Entry.{put};
+
+// Writes entry n, a kind and two numbers, if the table has room for it. Whether it has.
+pub fn write_entry(table: &mut [u8], n: u16, kind: u8, left: u16, right: u16) -> bool
+    ensures written { result ≡ true → (n < room (length table.old)) × (table.new ≡ put table.old n kind left right) }
+    ensures full { result ≡ false → (room (length table.old) ≤ n) × (table.new ≡ table.old) }
+{
+    let at = 5 * (n as usize);
+    if n == 65535 || table.len() < at + 5 {
+        return false;
+    }
+    table[at] = kind;
+    table[at + 1] = (left % 256) as u8;
+    table[at + 2] = (left / 256) as u8;
+    table[at + 3] = (right % 256) as u8;
+    table[at + 4] = (right / 256) as u8;
+    true
+}
