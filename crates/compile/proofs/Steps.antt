@@ -2,7 +2,7 @@
 -- Assumes nothing.
 use Prim.Native.Nat.{ℕ, suc, ◌+◌, ◌*◌, ◌-◌, ◌≤◌, ◌<◌}
 use mathlib.Core.Bool.{Bool}
-use mathlib.Core.Path.{◌≡◌, refl, ap}
+use mathlib.Core.Path.{◌≡◌, refl}
 use mathlib.Core.List.{List, [], ◌∷◌, ◌++◌, append_assoc, append-nil}
 use native.Mathlib.Omega.{arith}
 use native.Mathlib.Nat.{mul-add}
@@ -10,6 +10,8 @@ use native.Mathlib.Numerals.{add-one}
 use borrow.Author.Tests.{lt-ltb, le-ltb}
 use lib.ListN.{length, take, set}
 use lib.Seq.{take-suc-set}
+use Rattle.std.proofs.lemmas.List.{take_all}
+use Rattle.std.specs.Prelude.{Result, Ok, Err}
 use Rattle.book.specs.Faults.{refusal}
 use Rattle.book.specs.Tree.{Pat}
 use Rattle.book.specs.declared.fault.Fault.TheVariants.{Bindings}
@@ -17,19 +19,16 @@ use Rattle.book.specs.declared.fault.Refusal.{Refusal}
 use Rattle.book.proofs.Built.{group_next, group_none}
 use Rattle.named.specs.Trace.{Run, pure, bind, bindings}
 use Rattle.named.specs.Draws.{Done, Fills}
-use Rattle.named.specs.declared.node.Stored.{Stored}
-use Rattle.named.specs.declared.node.Stored.TheVariants as answers
-use Rattle.named.specs.declared.node.Filled.{Filled}
-use Rattle.named.specs.declared.node.Filled.TheVariants as fillings
+use Rattle.named.specs.declared.node.Placed.{Placed}
 use Rattle.named.proofs.Pens.{done_stop, fill_none, fill_next, fill_halt, fill_any}
 use Rattle.compile.specs.Lower.{binding_at}
 use Rattle.compile.specs.Cycle.{element_run, elements_run}
 
 -- a binding that there is room for, and one too many, where so many are live
-pub at_fits : (live r : ℕ) {t t' : List ℕ} {c : ℕ} {m : Run ℕ} {s : Stored} → live < 256 → Done t c m s t' → Done t c (binding_at r live m) s t'
+pub at_fits : (live r : ℕ) {t t' : List ℕ} {c : ℕ} {m : Run ℕ} {s : Result Placed Refusal} → live < 256 → Done t c m s t' → Done t c (binding_at r live m) s t'
 at_fits live r h d = rw (lt-ltb live 256 h) d
 
-pub at_full : (live : ℕ) (t : List ℕ) (c r : ℕ) (m : Run ℕ) → 256 ≤ live → Done t c (binding_at r live m) (answers.Refused (refusal Bindings r)) t
+pub at_full : (live : ℕ) (t : List ℕ) (c r : ℕ) (m : Run ℕ) → 256 ≤ live → Done t c (binding_at r live m) (Err (refusal Bindings r)) t
 at_full live t c r m h = rw (le-ltb live 256 h) (done_stop t c r bindings)
 
 -- elements of record r in the scope sc, stride s apart
@@ -44,7 +43,7 @@ module _ (y : Bool) (b i : List ℕ) (r m : ℕ) (sc : List Pat) (s : ℕ) where
 
 -- what the elements from k on, of n, come to is what all come to, after the nodes of those before
 pub record Suffices (y : Bool) (b i : List ℕ) (r m : ℕ) (sc : List Pat) (s f n : ℕ) (t₀ : List ℕ) (c₀ : ℕ) (t : List ℕ) (c k : ℕ) (roots : List ℕ) : Type 0 where
-  pub all : (w : Filled) (xs t' : List ℕ) → Fills t c (elements_run y b i r m sc s (f + s * k) (n - k)) w xs t' → Fills t₀ c₀ (elements_run y b i r m sc s f n) w (take k roots ++ xs) t'
+  pub all : (w : Result ℕ Refusal) (xs t' : List ℕ) → Fills t c (elements_run y b i r m sc s (f + s * k) (n - k)) w xs t' → Fills t₀ c₀ (elements_run y b i r m sc s f n) w (take k roots ++ xs) t'
 
 pub suffices_start : (y : Bool) (b i : List ℕ) (r m : ℕ) (sc : List Pat) (s f n : ℕ) (t : List ℕ) (c k : ℕ) (roots : List ℕ) → k ≡ 0 → Suffices y b i r m sc s f n t c t c k roots
 suffices_start y b i r m sc s f n t c k roots o = record {
@@ -55,21 +54,20 @@ suffices_start y b i r m sc s f n t c k roots o = record {
 }
 
 module _ {y : Bool} {b i : List ℕ} {r m : ℕ} {sc : List Pat} {s f n : ℕ} {t₀ : List ℕ} {c₀ : ℕ} {t : List ℕ} {c k : ℕ} {roots : List ℕ} (p : Suffices y b i r m sc s f n t₀ c₀ t c k roots) where
-  pub suffices_next : {t₁ : List ℕ} {a u : ℕ} {q : Stored} → k < n → k < length roots → Done t c (element_run y b i r m sc (f + s * k)) q t₁ → q ≡ answers.Node a u → Suffices y b i r m sc s f n t₀ c₀ t₁ u (k + 1) (set roots k a)
-  suffices_next {t₁} {a} {u} h l d e = record {
+  pub suffices_next : {t₁ : List ℕ} {a : Placed} → k < n → k < length roots → Done t c (element_run y b i r m sc (f + s * k)) (Ok a) t₁ → Suffices y b i r m sc s f n t₀ c₀ t₁ a.next (k + 1) (set roots k a.root)
+  suffices_next {t₁} {a} h l d = record {
     all = λ w xs t' g.
         let z : f + s * (k + 1) ≡ f + s * k + s = omega (arith, mul-add s k 1) in
-        let v : take (k + 1) (set roots k a) ++ xs ≡ take k roots ++ (a ∷ xs) = rw (add-one k, take-suc-set roots k a l, append_assoc) in
-        rw v (p.all w (a ∷ xs) t' (rw (elements_next y b i r m sc s (f + s * k) (n - k) (n - (k + 1)) (omega arith)) (fill_next d e (rw z at g))));
+        let v : take (k + 1) (set roots k a.root) ++ xs ≡ take k roots ++ (a.root ∷ xs) = rw (add-one k, take-suc-set roots k a.root l, append_assoc) in
+        rw v (p.all w (a.root ∷ xs) t' (rw (elements_next y b i r m sc s (f + s * k) (n - k) (n - (k + 1)) (omega arith)) (fill_next d (rw z at g))));
   }
 
-  pub suffices_halt : {t₁ : List ℕ} {w : Refusal} {q : Stored} (xs : List ℕ) → k < n → Done t c (element_run y b i r m sc (f + s * k)) q t₁ → q ≡ answers.Refused w → Fills t₀ c₀ (elements_run y b i r m sc s f n) (fillings.Refused w) xs t₁
-  suffices_halt {t₁} {w} xs h d e =
-      fill_any xs (p.all (fillings.Refused w) [] t₁ (rw (elements_next y b i r m sc s (f + s * k) (n - k) (n - (k + 1)) (omega arith)) (fill_halt _ [] d e)))
+  pub suffices_halt : {t₁ : List ℕ} {w : Refusal} (xs : List ℕ) → k < n → Done t c (element_run y b i r m sc (f + s * k)) (Err w) t₁ → Fills t₀ c₀ (elements_run y b i r m sc s f n) (Err w) xs t₁
+  suffices_halt {t₁} {w} xs h d =
+      fill_any xs (p.all (Err w) [] t₁ (rw (elements_next y b i r m sc s (f + s * k) (n - k) (n - (k + 1)) (omega arith)) (fill_halt _ [] d)))
 
-  pub suffices_done : n ≤ k → k ≤ n → Fills t₀ c₀ (elements_run y b i r m sc s f n) (fillings.To c) (take n roots) t
+  pub suffices_done : n ≤ k → length roots ≤ k → Fills t₀ c₀ (elements_run y b i r m sc s f n) (Ok c) roots t
   suffices_done h g =
-      let e : n ≡ k = omega arith in
       let z : n - k ≡ 0 = omega arith in
-      let v : take n roots ≡ take k roots = ap (λ (j : ℕ). take j roots) e in
-      rw v (rw append-nil at (p.all (fillings.To c) [] t (rw (elements_none y b i r m sc s (f + s * k) (n - k) z) fill_none)))
+      let v : take k roots ≡ roots = take_all k roots g in
+      rw v at (rw append-nil at (p.all (Ok c) [] t (rw (elements_none y b i r m sc s (f + s * k) (n - k) z) fill_none)))

@@ -8,6 +8,7 @@ use mathlib.Core.List.{List, [], ◌∷◌}
 use mathlib.Core.Path.{◌≡◌, refl, sym, ap, subst, ◌∙◌}
 use native.Mathlib.Omega.{arith}
 use lib.ListN.{length, length-replicate}
+use Rattle.std.specs.Prelude.{Result, Ok, Err}
 use Rattle.book.specs.Format.{EXPRESSION}
 use Rattle.book.specs.Read.{read_of, index_of}
 use Rattle.book.specs.Stands.{Stands}
@@ -16,14 +17,13 @@ use Rattle.book.specs.declared.fault.Refusal.{Refusal}
 use Rattle.book.proofs.Established.{answer_valid}
 use Rattle.named.specs.Cut.{refused, cut, room, image}
 use Rattle.named.specs.Draws.{Fate, Done}
-use Rattle.named.specs.declared.node.Stored.{Stored}
-use Rattle.named.specs.declared.node.Stored.TheVariants as stores
+use Rattle.named.specs.declared.node.Placed.{Placed}
 use Rattle.named.proofs.Images.{zeros, clear_gives, clear_stops}
 use Rattle.scope_bindings.specs.Scope.{IGNORED, scope_of, ScopeStands, ignored, Roots}
 use Rattle.scope_bindings.specs.declared.ScopeBindings.{ScopeBindings}
 use Rattle.scope_bindings.proofs.Scopes.{bound_ignored, scope_root, root_stands}
 use Rattle.compile.specs.Lower.{lower}
-use Rattle.compile.specs.Whole.{trace_of, lowering, lower_of, table_of, Lowered}
+use Rattle.compile.specs.Whole.{trace_of, answer_of, lowering, lower_of, table_of, Lowered}
 
 -- the root's scope
 pub root_scope_lem : {s : ScopeBindings} (b i : List ℕ) → Roots IGNORED s → scope_of b i s ≡ ignore ∷ []
@@ -32,19 +32,19 @@ root_scope_lem b i h = scope_root b i h ∙ rw (bound_ignored b i IGNORED refl)
 pub root_fits : {b i : List ℕ} {s : ScopeBindings} → Roots IGNORED s → ScopeStands b i s
 root_fits h = root_stands (ignored refl) h
 
-module _ (y : Bool) (b i : List ℕ) (r : ℕ) {s : ScopeBindings} {t t' : List ℕ} {q : Stored} (h : Roots IGNORED s) (z : t ≡ zeros (length t)) (d : Done t 0 (lower y (expr_of b i r) (scope_of b i s)) q t') where
-  from_clear : Fate (zeros (length t)) 0 (lower y (expr_of b i r) (ignore ∷ [])) q t'
-  from_clear = subst (λ u. Fate u 0 (lower y (expr_of b i r) (ignore ∷ [])) q t') z (rw (root_scope_lem b i h) at d.fate)
+module _ (y : Bool) (b i : List ℕ) (r : ℕ) {s : ScopeBindings} {t t' : List ℕ} (h : Roots IGNORED s) (z : t ≡ zeros (length t)) where
+  from_clear : {q : Result Placed Refusal} → Done t 0 (lower y (expr_of b i r) (scope_of b i s)) q t' → Fate (zeros (length t)) 0 (lower y (expr_of b i r) (ignore ∷ [])) q t'
+  from_clear {q} d = subst (λ u. Fate u 0 (lower y (expr_of b i r) (ignore ∷ [])) q t') z (rw (root_scope_lem b i h) at d.fate)
 
   -- a result: the nodes and then zeros
-  pub root_made : {a u : ℕ} → q ≡ stores.Node a u → Lowered (cut (room (length t)) (trace_of y b i r)) (length t) (Ok u) t'
+  pub root_made : {a : Placed} → Done t 0 (lower y (expr_of b i r) (scope_of b i s)) (Ok a) t' → Lowered (cut (room (length t)) (trace_of y b i r)) (length t) (Ok a.next) t'
   unfolding Fate trace_of
-  root_made e = let g = clear_gives (length t) (lower y (expr_of b i r) (ignore ∷ [])) (rw e at from_clear) in record { answer = rw (g.0, g.1) refl; table = g.2 }
+  root_made d = let g = clear_gives (length t) (lower y (expr_of b i r) (ignore ∷ [])) (from_clear d) in record { answer = ap Ok g.1 ∙ sym (ap answer_of g.0); table = g.2 }
 
   -- a refusal: zeros throughout
-  pub root_refused : {w : Refusal} {t₂ : List ℕ} → q ≡ stores.Refused w → t₂ ≡ zeros (length t') → Lowered (cut (room (length t)) (trace_of y b i r)) (length t) (Err w) t₂
+  pub root_refused : {w : Refusal} {t₂ : List ℕ} → Done t 0 (lower y (expr_of b i r) (scope_of b i s)) (Err w) t' → t₂ ≡ zeros (length t') → Lowered (cut (room (length t)) (trace_of y b i r)) (length t) (Err w) t₂
   unfolding Fate trace_of
-  root_refused e o = let g = clear_stops (length t) (lower y (expr_of b i r) (ignore ∷ [])) (rw e at from_clear) in record { answer = rw g.0 refl; table = o ∙ rw d.kept g.1 }
+  root_refused d o = let g = clear_stops (length t) (lower y (expr_of b i r) (ignore ∷ [])) (from_clear d) in record { answer = rw g.0 refl; table = o ∙ rw d.kept g.1 }
 
 -- the last record of a book that READ accepts
 module _ (b : List ℕ) (n : ℕ) (e : read_of b ≡ Ok n) where

@@ -10,7 +10,7 @@ use Rattle.named.specs.Trace.{Run, pure, bind}
 use Rattle.scope_bindings.specs.Scope.{scope_of, ScopeStands}
 use Rattle.scope_bindings.specs.declared.ScopeBindings.{ScopeBindings}
 use Rattle.recipes.specs.Calls as calls
-use Rattle.parts.specs.Joins.{matched, chosen, finished}
+use Rattle.parts.specs.Joins.{chosen, finished}
 use Rattle.parts.specs.Parts.{span_at, is_call, is_functional, symbol_at, gather_run, wrap_run, fold_run, plain_run}
 use Rattle.compile.specs.Lower.{binding, lower, body}
 
@@ -40,12 +40,6 @@ module _ (y : Bool) (b i : List ℕ) (r m : ℕ) where
   complete_run sc a =
       pick (eqb m EH) (bind (lower y (expr_of b i (field b i r 1)) sc) (λ s. chosen r s a))
       (pick (is_call m) (call_run a) (wrap_run b i r m a))
-
--- a match of two arms, after its left one
-unfoldable pub second_run : Bool → List ℕ → List ℕ → ℕ → List Pat → ℕ → Run ℕ
-second_run y b i r sc l =
-    bind (binding r sc (lower y (expr_of b i (field b i r 5)) (pattern_of b i (field b i r 4) ∷ sc))) (λ g.
-    bind (lower y (expr_of b i (field b i r 1)) sc) (λ s. matched r s l g))
 
 -- what callers know of field j of record r, which is an element's: it names an earlier expression, and an arm's pattern is named before it
 pub record InSpan (b i : List ℕ) (r m j : ℕ) : Type 0 where

@@ -11,12 +11,12 @@ ghost use Rattle.recipes.specs.Calls.{paired};
 ghost use Rattle.scope_bindings.specs.Scope.{variable, scope_of, ScopeStands};
 ghost use Rattle.parts.specs.Parts.{Marked, Spanned, row_marks, is_call};
 ghost use Rattle.compile.specs.Lower.{binding_at, binding, lower, statements, body};
-ghost use Rattle.compile.specs.Cycle.{element_run, elements_run, row_run, body_run, complete_run, call_run, second_run, begin_run, stmts_of, Enters, InSpan};
+ghost use Rattle.compile.specs.Cycle.{element_run, elements_run, row_run, body_run, complete_run, call_run, begin_run, stmts_of, Enters, InSpan};
 
 use book::fault::{Fault, Refusal};
 use book::format::{CK, EB, EC, EH, EM, EV, EW, SA};
 use book::record::Book;
-use named::node::{Filled, Stored, UNIT, answer_of, pen_at, put};
+use named::node::{Placed, UNIT, answer_of, pen_at, put};
 use parts::part::{
     choose_arm, close_all, constant, finish, fold_body, gather, match_arms, plain_body, witness,
     wrap,
@@ -34,7 +34,7 @@ pub fn expression(
     scope: &ScopeBindings,
     nodes: &mut [u8],
     next: u16,
-) -> Stored
+) -> Result<Placed, Refusal>
     requires { (Stands book.now.bytes book.now.index r EXPRESSION) × (ScopeStands book.now.bytes book.now.index scope.now) }
     ensures { Done nodes.old next (lower symbols (expr_of book.now.bytes book.now.index r) (scope_of book.now.bytes book.now.index scope.now)) result nodes.new }
 {
@@ -54,7 +54,13 @@ pub fn expression(
 }
 
 // A variable: the selector of its name.
-fn variable(book: &Book, r: u16, scope: &ScopeBindings, nodes: &mut [u8], next: u16) -> Stored
+fn variable(
+    book: &Book,
+    r: u16,
+    scope: &ScopeBindings,
+    nodes: &mut [u8],
+    next: u16,
+) -> Result<Placed, Refusal>
     requires marked { Marked book.now.bytes book.now.index r EV }
     requires scope_stands { ScopeStands book.now.bytes book.now.index scope.now }
     ensures { Done nodes.old next (variable r (field book.now.bytes book.now.index r 1) (scope_of book.now.bytes book.now.index scope.now)) result nodes.new }
@@ -73,14 +79,12 @@ fn from_row(
     scope: &ScopeBindings,
     nodes: &mut [u8],
     next: u16,
-) -> Stored
+) -> Result<Placed, Refusal>
     requires { (Marked book.now.bytes book.now.index r m) × ((ScopeStands book.now.bytes book.now.index scope.now) × (T (among row_marks m))) }
     ensures { Done nodes.old next (lower symbols (expr_of book.now.bytes book.now.index r) (scope_of book.now.bytes book.now.index scope.now)) result nodes.new }
 {
-    match row(book, symbols, r, m, scope, nodes, next) {
-        Stored::Node { root: a, next: n } => { complete(book, symbols, r, m, a, scope, nodes, n) }
-        Stored::Refused(w) => Stored::Refused(w),
-    }
+    let a = row(book, symbols, r, m, scope, nodes, next)?;
+    complete(book, symbols, r, m, a.root, scope, nodes, a.next)
 }
 
 // The elements of a record, and what joins them.
@@ -93,16 +97,15 @@ fn row(
     scope: &ScopeBindings,
     nodes: &mut [u8],
     next: u16,
-) -> Stored
+) -> Result<Placed, Refusal>
     requires { (Marked book.now.bytes book.now.index r m) × ((ScopeStands book.now.bytes book.now.index scope.now) × (T (among row_marks m))) }
     ensures { Done nodes.old next (row_run symbols book.now.bytes book.now.index r m (scope_of book.now.bytes book.now.index scope.now)) result nodes.new }
 {
     let span = span_of(book, r, m);
-    let mut roots = [0u16; 256];
-    match elements(book, symbols, r, m, span, scope, &mut roots, nodes, next) {
-        Filled::To(n) => gather(book, r, m, &roots, span.count, nodes, n),
-        Filled::Refused(w) => Stored::Refused(w),
-    }
+    let mut room = [0u16; 256];
+    let roots = &mut room[..span.count];
+    let n = elements(book, symbols, r, m, span, scope, roots, nodes, next)?;
+    gather(book, r, m, roots, nodes, n)
 }
 
 // The elements one after another; their nodes go into a row.
@@ -117,27 +120,18 @@ fn elements(
     roots: &mut [u16],
     nodes: &mut [u8],
     next: u16,
-) -> Filled
-    requires { (Marked book.now.bytes book.now.index r m) × ((ScopeStands book.now.bytes book.now.index scope.now) × ((T (among row_marks m)) × ((Spanned book.now.bytes book.now.index r m span) × (256 ≤ length roots.old)))) }
-    ensures { (length roots.new ≡ length roots.old) × (Fills nodes.old next (elements_run symbols book.now.bytes book.now.index r m (scope_of book.now.bytes book.now.index scope.now) span.stride span.from span.count) result (take span.count roots.new) nodes.new) }
+) -> Result<u16, Refusal>
+    requires { (Marked book.now.bytes book.now.index r m) × ((ScopeStands book.now.bytes book.now.index scope.now) × ((T (among row_marks m)) × ((Spanned book.now.bytes book.now.index r m span) × (length roots.old ≡ span.count)))) }
+    ensures { Fills nodes.old next (elements_run symbols book.now.bytes book.now.index r m (scope_of book.now.bytes book.now.index scope.now) span.stride span.from span.count) result roots.new nodes.new }
 {
-    let count = span.count;
     let mut at = next;
-    let mut k: usize = 0;
-    while k < count {
+    for (k, root) in roots.iter_mut().enumerate() {
         let j = span.from + span.stride * k;
-        match element(book, symbols, r, m, j, scope, nodes, at) {
-            Stored::Node { root: a, next: n } => {
-                roots[k] = a;
-                at = n;
-            }
-            Stored::Refused(w) => {
-                return Filled::Refused(w);
-            }
-        }
-        k += 1;
+        let a = element(book, symbols, r, m, j, scope, nodes, at)?;
+        *root = a.root;
+        at = a.next;
     }
-    Filled::To(at)
+    Ok(at)
 }
 
 // The element at field j: an arm of an enum's match has its pattern before it.
@@ -151,7 +145,7 @@ fn element(
     scope: &ScopeBindings,
     nodes: &mut [u8],
     next: u16,
-) -> Stored
+) -> Result<Placed, Refusal>
     requires { (Marked book.now.bytes book.now.index r m) × ((ScopeStands book.now.bytes book.now.index scope.now) × (InSpan book.now.bytes book.now.index r m j)) }
     ensures { Done nodes.old next (element_run symbols book.now.bytes book.now.index r m (scope_of book.now.bytes book.now.index scope.now) j) result nodes.new }
 {
@@ -174,12 +168,12 @@ fn arm(
     scope: &ScopeBindings,
     nodes: &mut [u8],
     next: u16,
-) -> Stored
+) -> Result<Placed, Refusal>
     requires { (Stands book.now.bytes book.now.index pattern PATTERN) × ((Stands book.now.bytes book.now.index e EXPRESSION) × (ScopeStands book.now.bytes book.now.index scope.now)) }
     ensures { Done nodes.old next (binding r (scope_of book.now.bytes book.now.index scope.now) (lower symbols (expr_of book.now.bytes book.now.index e) (pattern_of book.now.bytes book.now.index pattern ∷ (scope_of book.now.bytes book.now.index scope.now)))) result nodes.new }
 {
     if scope.count >= 256 {
-        return Stored::Refused(Refusal {
+        return Err(Refusal {
             fault: Fault::Bindings,
             place: r,
         });
@@ -199,7 +193,7 @@ fn complete(
     scope: &ScopeBindings,
     nodes: &mut [u8],
     next: u16,
-) -> Stored
+) -> Result<Placed, Refusal>
     requires { (Marked book.now.bytes book.now.index r m) × (ScopeStands book.now.bytes book.now.index scope.now) }
     ensures { Done nodes.old next (complete_run symbols book.now.bytes book.now.index r m (scope_of book.now.bytes book.now.index scope.now) inner) result nodes.new }
 {
@@ -222,15 +216,13 @@ fn choose(
     scope: &ScopeBindings,
     nodes: &mut [u8],
     next: u16,
-) -> Stored
+) -> Result<Placed, Refusal>
     requires { (Marked book.now.bytes book.now.index r EH) × (ScopeStands book.now.bytes book.now.index scope.now) }
     ensures { Done nodes.old next (complete_run symbols book.now.bytes book.now.index r EH (scope_of book.now.bytes book.now.index scope.now) cases) result nodes.new }
 {
     let e = book.field_at(r, 1);
-    match expression(book, symbols, e, scope, nodes, next) {
-        Stored::Node { root: s, next: n } => choose_arm(r, s, cases, nodes, n),
-        Stored::Refused(w) => Stored::Refused(w),
-    }
+    let s = expression(book, symbols, e, scope, nodes, next)?;
+    choose_arm(r, s.root, cases, nodes, s.next)
 }
 
 // A call, after its arguments: its body, and then what joins them.
@@ -243,19 +235,24 @@ fn call(
     arguments: u16,
     nodes: &mut [u8],
     next: u16,
-) -> Stored
+) -> Result<Placed, Refusal>
     requires { (Marked book.now.bytes book.now.index r m) × (is_call m ≡ true) }
     ensures { Done nodes.old next (call_run symbols book.now.bytes book.now.index r m arguments) result nodes.new }
 {
-    match body(book, symbols, r, m, nodes, next) {
-        Stored::Node { root: b, next: n } => { finish(book, symbols, r, m, arguments, b, nodes, n) }
-        Stored::Refused(w) => Stored::Refused(w),
-    }
+    let b = body(book, symbols, r, m, nodes, next)?;
+    finish(book, symbols, r, m, arguments, b.root, nodes, b.next)
 }
 
 // The body of a call.
 #[cycle(lowering)]
-fn body(book: &Book, symbols: bool, r: u16, m: u8, nodes: &mut [u8], next: u16) -> Stored
+fn body(
+    book: &Book,
+    symbols: bool,
+    r: u16,
+    m: u8,
+    nodes: &mut [u8],
+    next: u16,
+) -> Result<Placed, Refusal>
     requires { (Marked book.now.bytes book.now.index r m) × (is_call m ≡ true) }
     ensures { Done nodes.old next (body_run symbols book.now.bytes book.now.index r m) result nodes.new }
 {
@@ -263,15 +260,19 @@ fn body(book: &Book, symbols: bool, r: u16, m: u8, nodes: &mut [u8], next: u16) 
         return plain_body(book, r, m, nodes, next);
     }
     let f = book.field_at(r, 1);
-    match function(book, symbols, f, nodes, next) {
-        Stored::Node { root: g, next: n } => fold_body(book, r, m, g, nodes, n),
-        Stored::Refused(w) => Stored::Refused(w),
-    }
+    let g = function(book, symbols, f, nodes, next)?;
+    fold_body(book, r, m, g.root, nodes, g.next)
 }
 
 // A function's body, lowered anew for each call, in a scope of its parameters only.
 #[cycle(lowering)]
-fn function(book: &Book, symbols: bool, f: u16, nodes: &mut [u8], next: u16) -> Stored
+fn function(
+    book: &Book,
+    symbols: bool,
+    f: u16,
+    nodes: &mut [u8],
+    next: u16,
+) -> Result<Placed, Refusal>
     requires { Stands book.now.bytes book.now.index f FUNCTION }
     ensures { Done nodes.old next (body symbols (fun_of book.now.bytes book.now.index f)) result nodes.new }
 {
@@ -281,7 +282,7 @@ fn function(book: &Book, symbols: bool, f: u16, nodes: &mut [u8], next: u16) -> 
     expression(book, symbols, e, &scope, nodes, next)
 }
 
-// A match of two arms: both arms, and then the scrutinee and the case.
+// A match of two arms: both arms, the scrutinee, and then the case.
 #[cycle(lowering)]
 fn two_arms(
     book: &Book,
@@ -290,12 +291,14 @@ fn two_arms(
     scope: &ScopeBindings,
     nodes: &mut [u8],
     next: u16,
-) -> Stored
+) -> Result<Placed, Refusal>
     requires { (Marked book.now.bytes book.now.index r EM) × (ScopeStands book.now.bytes book.now.index scope.now) }
     ensures { Done nodes.old next (lower symbols (expr_of book.now.bytes book.now.index r) (scope_of book.now.bytes book.now.index scope.now)) result nodes.new }
 {
     let left = arm_at(book, r, 2);
-    match arm(
+    let right = arm_at(book, r, 4);
+    let e = book.field_at(r, 1);
+    let a = arm(
         book,
         symbols,
         r,
@@ -304,29 +307,8 @@ fn two_arms(
         scope,
         nodes,
         next,
-    ) {
-        Stored::Node { root: a, next: n } => { second_arm(book, symbols, r, a, scope, nodes, n) }
-        Stored::Refused(w) => Stored::Refused(w),
-    }
-}
-
-// A match after its left arm.
-#[cycle(lowering)]
-fn second_arm(
-    book: &Book,
-    symbols: bool,
-    r: u16,
-    left: u16,
-    scope: &ScopeBindings,
-    nodes: &mut [u8],
-    next: u16,
-) -> Stored
-    requires { (Marked book.now.bytes book.now.index r EM) × (ScopeStands book.now.bytes book.now.index scope.now) }
-    ensures { Done nodes.old next (second_run symbols book.now.bytes book.now.index r (scope_of book.now.bytes book.now.index scope.now) left) result nodes.new }
-{
-    let right = arm_at(book, r, 4);
-    let e = book.field_at(r, 1);
-    match arm(
+    )?;
+    let b = arm(
         book,
         symbols,
         r,
@@ -334,16 +316,10 @@ fn second_arm(
         right.body,
         scope,
         nodes,
-        next,
-    ) {
-        Stored::Node { root: b, next: n } => {
-            match expression(book, symbols, e, scope, nodes, n) {
-                Stored::Node { root: s, next: u } => match_arms(r, s, left, b, nodes, u),
-                Stored::Refused(w) => Stored::Refused(w),
-            }
-        }
-        Stored::Refused(w) => Stored::Refused(w),
-    }
+        a.next,
+    )?;
+    let s = expression(book, symbols, e, scope, nodes, b.next)?;
+    match_arms(r, s.root, a.root, b.root, nodes, s.next)
 }
 
 // A block: its statements begun in order, its end, and the statements ended from the last on.
@@ -355,7 +331,7 @@ fn block(
     scope: &ScopeBindings,
     nodes: &mut [u8],
     next: u16,
-) -> Stored
+) -> Result<Placed, Refusal>
     requires { (Marked book.now.bytes book.now.index r EB) × (ScopeStands book.now.bytes book.now.index scope.now) }
     ensures { Done nodes.old next (lower symbols (expr_of book.now.bytes book.now.index r) (scope_of book.now.bytes book.now.index scope.now)) result nodes.new }
 {
@@ -363,25 +339,16 @@ fn block(
     let mut begun = [0u16; 256];
     let mut own = *scope;
     let mut at = next;
-    let mut k: usize = 0;
-    while k < count {
+    for k in 0..count {
         let s = book.field_at(r, 2 + k);
-        match begin(book, symbols, s, &own, nodes, at) {
-            Stored::Node { root: a, next: n } => {
-                begun[k] = a;
-                at = n;
-                own = enter(book, s, own);
-            }
-            Stored::Refused(w) => {
-                return Stored::Refused(w);
-            }
-        }
-        k += 1;
+        let a = begin(book, symbols, s, &own, nodes, at)?;
+        begun[k] = a.root;
+        at = a.next;
+        own = enter(book, s, own);
     }
-    match end(book, symbols, r, &own, nodes, at) {
-        Stored::Node { root: a, next: n } => { close_all(book, r, &begun, count, a, nodes, n) }
-        Stored::Refused(w) => Stored::Refused(w),
-    }
+    let last = end(book, symbols, r, &own, nodes, at)?;
+    let values = &begun[..count];
+    close_all(book, r, values, last.root, nodes, last.next)
 }
 
 // The end of a block: an expression, or unit where there is none.
@@ -393,7 +360,7 @@ fn end(
     scope: &ScopeBindings,
     nodes: &mut [u8],
     next: u16,
-) -> Stored
+) -> Result<Placed, Refusal>
     requires { (Marked book.now.bytes book.now.index r EB) × (ScopeStands book.now.bytes book.now.index scope.now) }
     ensures { Done nodes.old next (statements symbols r (stmts_of book.now.bytes book.now.index r (2 + field book.now.bytes book.now.index r 1) 0) (scope_of book.now.bytes book.now.index scope.now)) result nodes.new }
 {
@@ -414,7 +381,7 @@ fn begin(
     scope: &ScopeBindings,
     nodes: &mut [u8],
     next: u16,
-) -> Stored
+) -> Result<Placed, Refusal>
     requires { (Stands book.now.bytes book.now.index s STATEMENT) × (ScopeStands book.now.bytes book.now.index scope.now) }
     ensures { Done nodes.old next (begin_run book.now.bytes book.now.index s symbols (scope_of book.now.bytes book.now.index scope.now)) result nodes.new }
 {
@@ -423,18 +390,22 @@ fn begin(
         return expression(book, symbols, e, scope, nodes, next);
     }
     let e = book.field_at(s, 1);
-    match expression(book, symbols, e, scope, nodes, next) {
-        Stored::Node { root: a, next: n } => bind_value(s, a, scope.count, nodes, n),
-        Stored::Refused(w) => Stored::Refused(w),
-    }
+    let a = expression(book, symbols, e, scope, nodes, next)?;
+    bind_value(s, a.root, scope.count, nodes, a.next)
 }
 
 // The value of an assignment beside the environment, where so many bindings are live.
-fn bind_value(s: u16, value: u16, live: usize, nodes: &mut [u8], next: u16) -> Stored
+fn bind_value(
+    s: u16,
+    value: u16,
+    live: usize,
+    nodes: &mut [u8],
+    next: u16,
+) -> Result<Placed, Refusal>
     ensures { Done nodes.old next (binding_at s live (paired s value)) result nodes.new }
 {
     if live >= 256 {
-        return Stored::Refused(Refusal {
+        return Err(Refusal {
             fault: Fault::Bindings,
             place: s,
         });
@@ -448,10 +419,7 @@ fn enter(book: &Book, s: u16, scope: ScopeBindings) -> ScopeBindings
     requires scope_stands { ScopeStands book.now.bytes book.now.index scope }
     ensures { Enters book.now.bytes book.now.index s scope result }
 {
-    if book.mark_at(s) != SA {
-        return scope;
-    }
-    if scope.count >= 256 {
+    if book.mark_at(s) != SA || scope.count >= 256 {
         return scope;
     }
     let pattern = book.field_at(s, 0);

@@ -11,7 +11,6 @@ use crate::cycle::expression;
 use book::fault::Refusal;
 use book::read::index_book;
 use book::record::Book;
-use named::node::Stored;
 use named::table::clear;
 use scope_bindings::{IGNORED, ScopeBindings};
 
@@ -37,8 +36,8 @@ fn lower_root(book: &Book, symbols: bool, r: u16, nodes: &mut [u8]) -> Result<u1
 {
     let scope = ScopeBindings::from_root(IGNORED);
     match expression(book, symbols, r, &scope, nodes, 0) {
-        Stored::Node { root: _, next: n } => Ok(n),
-        Stored::Refused(w) => {
+        Ok(root) => Ok(root.next),
+        Err(w) => {
             clear(nodes);
             Err(w)
         }

@@ -6,15 +6,16 @@ use mathlib.Core.Option.{Option}
 use mathlib.Core.Path.{◌≡◌, refl, ap, ◌∙◌}
 use native.Mathlib.Omega.{arith}
 use lib.ListN.{get_or, replicate}
+use Rattle.std.specs.Prelude.{Result, Err}
 use Rattle.array.specs.Path.{Side, on_left, on_right}
 use Rattle.book.specs.Faults.{refusal}
 use Rattle.book.specs.declared.fault.Fault.TheVariants.{Undefined}
+use Rattle.book.specs.declared.fault.Refusal.{Refusal}
 use Rattle.named.specs.Trace.{emit}
 use Rattle.named.specs.Combinators.{TAKE, DROP, kinds, wraps}
 use Rattle.named.specs.Draws.{Draws, Done, Opens, Closes}
 use Rattle.named.specs.declared.node.Pen.{Pen}
-use Rattle.named.specs.declared.node.Stored.{Stored}
-use Rattle.named.specs.declared.node.Stored.TheVariants as stores
+use Rattle.named.specs.declared.node.Placed.{Placed}
 use Rattle.named.proofs.Runs.{bind_pure}
 use Rattle.named.proofs.Pens.{draw_then, draw_pure, closes, done_stop}
 use Rattle.pattern.specs.Find.{find}
@@ -96,10 +97,10 @@ module _ {r : ℕ} {t : List ℕ} {p : Pen} (newer older : ℕ) where
 
 -- a variable's node, or its refusal
 module _ {r c : ℕ} {t t' : List ℕ} {w : Option (List Side)} where
-  pub fetch_found : {p q : Pen} {s : Stored} → Opens c p → Found r t p w q t' → Closes r q s → Done t c (fetch r w) s t'
+  pub fetch_found : {p q : Pen} {s : Result Placed Refusal} → Opens c p → Found r t p w q t' → Closes r q s → Done t c (fetch r w) s t'
   unfolding fetch
   fetch_found o f h = rw f.is (closes o f.drawn h)
 
-  pub fetch_missing : Absent w t t' → Done t c (fetch r w) (stores.Refused (refusal Undefined r)) t'
+  pub fetch_missing : Absent w t t' → Done t c (fetch r w) (Err (refusal Undefined r)) t'
   unfolding fetch
   fetch_missing a = rw (a.is, a.table) (done_stop t c r _)

@@ -11,7 +11,7 @@ ghost use Rattle.scope_bindings.specs.Scope.{reach, lookup, lookup_below, variab
 use book::fault::{Fault, Refusal};
 use book::format::FN;
 use book::record::Book;
-use named::node::{DROP, Pen, Stored, TAKE, answer_of, pen_at, put};
+use named::node::{DROP, Pen, Placed, TAKE, answer_of, pen_at, put};
 use pattern::{Nested, get_from, get_param, get_shallow};
 
 // An entry for the ignore pattern, which no record need stand for. The entries are no Options: document 01 names a row of 256 filled with
@@ -47,14 +47,21 @@ impl ScopeBindings {
     }
 
     // The selector of a name in a scope, or a refusal where the name is not in scope.
-    pub fn get(&self, book: &Book, name: u16, nodes: &mut [u8], place: u16, next: u16) -> Stored
+    pub fn get(
+        &self,
+        book: &Book,
+        name: u16,
+        nodes: &mut [u8],
+        place: u16,
+        next: u16,
+    ) -> Result<Placed, Refusal>
         requires { ScopeStands book.now.bytes book.now.index self.now }
         ensures { Done nodes.old next (variable place name (scope_of book.now.bytes book.now.index self.now)) result nodes.new }
     {
         let pen = pen_at(next);
         match self.get_near(book, name, nodes, place, pen) {
             Some(found) => answer_of(place, found),
-            None => Stored::Refused(Refusal {
+            None => Err(Refusal {
                 fault: Fault::Undefined,
                 place,
             }),

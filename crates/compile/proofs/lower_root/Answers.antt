@@ -6,8 +6,8 @@ use Rattle.compile.proofs.lower_root.Goals as goal
 pub expression-requires : goal.expression-requires
 expression-requires c = (c.requires.stands, root_fits c.from_root-scope.ensures)
 
-pub returns-in-Node : goal.returns-in-Node
-returns-in-Node c = root_made _ _ _ _ c.from_root-scope.ensures c.requires.nodes_is c.expression.ensures c.in-Node.is
+pub returns-in-Ok : goal.returns-in-Ok
+returns-in-Ok c = root_made _ _ _ _ c.from_root-scope.ensures c.requires.nodes_is c.in-Ok.ensures
 
-pub returns-in-Refused : goal.returns-in-Refused
-returns-in-Refused c = root_refused _ _ _ _ c.from_root-scope.ensures c.requires.nodes_is c.expression.ensures c.in-Refused.is c.clear.ensures
+pub returns-in-Err : goal.returns-in-Err
+returns-in-Err c = root_refused _ _ _ _ c.from_root-scope.ensures c.requires.nodes_is c.in-Err.ensures c.clear.ensures

@@ -1,23 +1,23 @@
 -- The lowering of expressions: each function of the cycle does what its definition says, and together they are `lower`.
 -- Assumes nothing.
-use mathlib.Core.Path.{refl, sym, ap, ◌∙◌}
+use mathlib.Core.Path.{refl, sym, ◌∙◌}
 use native.Mathlib.Nat.{le_trans, le_of_lt}
 use native.Mathlib.Omega.{arith}
 use lib.ListN.{length-set}
 use Rattle.laws.specs.Table.{free}
 use Rattle.book.specs.Format.{PATTERN, EXPRESSION, EC, EW, EV, EB, SA, SE, EM, EH, CK, FN}
 use Rattle.book.proofs.Standing.{stands_begins, head_lies, function_mark}
-use Rattle.named.proofs.Pens.{then, halt, closes}
+use lib.Seq.{length-take-le}
+use Rattle.named.proofs.Pens.{then, halt, handed, closes}
 use Rattle.scope_bindings.specs.Scope.{of_function}
 use Rattle.scope_bindings.proofs.Scopes.{scope_count, root_stands}
-use Rattle.parts.specs.declared.view.Span.{Span}
 use Rattle.parts.proofs.Marks.{lies, most, at_mark}
 use Rattle.parts.proofs.Spans.{stmt_lies, stmt_stands, stmt_below, does_mark, near_most}
 use Rattle.compile.specs.Cycle.{call_run}
 use Rattle.compile.proofs.Shapes.{other_marks, row_is, row_else, cast_is, constant_is, witness_is, variable_is, block_is}
 use Rattle.compile.proofs.Steps.{suffices_start, suffices_next, suffices_halt, suffices_done}
 use Rattle.compile.proofs.Blocks.{begun_start, begun_next, begun_halt, begun_end, begun_end_halt}
-use Rattle.compile.proofs.Facts.{head_is, head_less, in_span, does_stands, does_below, value_stands, value_below, inner_stands, arm_done, arm_full, fn_lies, fn_stands, fn_less, fn_done, end_lies, end_is, end_less, begin_does, begin_assign, begin_halt, element_plain, element_arm, functional_lies, functional_stands, functional_below, body_plain, body_fold, body_halt, choose_then, choose_halt, complete_call, complete_wrap, lies_after, arm_names, arm_body, arm_less, marked_as, marked, end_unit, end_expr, row_then, row_halt, second_is, arms_is, enters_is}
+use Rattle.compile.proofs.Facts.{head_is, head_less, in_span, does_stands, does_below, value_stands, value_below, inner_stands, arm_done, arm_full, fn_lies, fn_stands, fn_less, fn_done, end_lies, end_is, end_less, begin_does, begin_assign, begin_halt, element_plain, element_arm, functional_lies, functional_stands, functional_below, body_plain, body_fold, body_halt, choose_then, choose_halt, complete_call, complete_wrap, lies_after, arm_names, arm_body, arm_less, marked_as, marked, end_unit, end_expr, row_then, row_halt, arms_is, enters_is}
 use borrow.Author.Rules.{rules}
 use Rattle.compile.proofs.cycle.+lowering.Goals as goal
 
@@ -52,65 +52,63 @@ pub begin-expression-requires-2 : goal.begin-expression-requires-2
 begin-expression-requires-2 t c =
     ((omega (arith, c.decreases, value_below c.requires.0 (sym c.mark_at.ensures ∙ c.if-mark_at-ne-SA.false) c.field_at-e-2.ensures)), (value_stands c.requires.0 (sym c.mark_at.ensures ∙ c.if-mark_at-ne-SA.false) c.field_at-e-2.ensures, c.requires.1))
 
-pub begin-returns-in-Node : goal.begin-returns-in-Node
-begin-returns-in-Node t c =
-    begin_assign _ _ _ _ _ _ _ (sym c.mark_at.ensures ∙ c.if-mark_at-ne-SA.false) c.field_at-e-2.ensures c.expression-2.ensures c.in-Node.is (scope_count _ _ _) c.bind_value.ensures
+pub begin-returns : goal.begin-returns
+begin-returns t c =
+    begin_assign _ _ _ _ _ _ _ (sym c.mark_at.ensures ∙ c.if-mark_at-ne-SA.false) c.field_at-e-2.ensures c.in_ok-a.ensures (scope_count _ _ _) c.bind_value.ensures
 
-pub begin-returns-in-Refused : goal.begin-returns-in-Refused
-begin-returns-in-Refused t c =
-    begin_halt _ _ _ _ _ _ (sym c.mark_at.ensures ∙ c.if-mark_at-ne-SA.false) c.field_at-e-2.ensures c.expression-2.ensures c.in-Refused.is
+pub begin-returns-in_err-a : goal.begin-returns-in_err-a
+begin-returns-in_err-a t c =
+    rw (handed c.from_residual.ensures.1) (begin_halt _ _ _ _ _ _ (sym c.mark_at.ensures ∙ c.if-mark_at-ne-SA.false) c.field_at-e-2.ensures c.in_err-a.ensures)
 
 pub block-field_at-count-requires : goal.block-field_at-count-requires
 block-field_at-count-requires t c = lies c.requires.0 1 tt
-
-pub block-loop-k-init : goal.block-loop-k-init
-block-loop-k-init t c = (search rules, omega arith, c.requires.1, begun_start _ _ _ _ _ _ _ _ _ _ refl)
-
-pub block-overflow_add-k : goal.block-overflow_add-k
-block-overflow_add-k t c = omega (arith, c.loop-k-test.true, most c.requires.0 1 tt refl, c.field_at-count.ensures)
 
 pub block-field_at-s-requires : goal.block-field_at-s-requires
 block-field_at-s-requires t c = stmt_lies c.requires.0 c.loop-k.k (omega (arith, c.loop-k-test.true, c.field_at-count.ensures))
 
 pub block-begin-requires : goal.block-begin-requires
 block-begin-requires t c =
-    ((omega (arith, c.decreases, stmt_below c.requires.0 c.loop-k.k (omega (arith, c.loop-k-test.true, c.field_at-count.ensures)), c.field_at-s.ensures)), (stmt_stands c.requires.0 c.loop-k.k (omega (arith, c.loop-k-test.true, c.field_at-count.ensures)) c.field_at-s.ensures, c.loop-k.invariant.2))
+    ((omega (arith, c.decreases, stmt_below c.requires.0 c.loop-k.k (omega (arith, c.loop-k-test.true, c.field_at-count.ensures)), c.field_at-s.ensures)), (stmt_stands c.requires.0 c.loop-k.k (omega (arith, c.loop-k-test.true, c.field_at-count.ensures)) c.field_at-s.ensures, c.loop-k.invariant.1))
+
+pub block-enter-own-requires : goal.block-enter-own-requires
+block-enter-own-requires t c =
+    record { stands = stmt_stands c.requires.0 c.loop-k.k (omega (arith, c.loop-k-test.true, c.field_at-count.ensures)) c.field_at-s.ensures; scope_stands = c.loop-k.invariant.1 }
+
+pub block-loop-k-init : goal.block-loop-k-init
+block-loop-k-init t c = (search rules, c.requires.1, begun_start _ _ _ _ _ _ _ _ _ _ refl)
 
 pub block-bounds-begun-k : goal.block-bounds-begun-k
 block-bounds-begun-k t c = omega (arith, c.loop-k-test.true, most c.requires.0 1 tt refl, c.field_at-count.ensures, c.loop-k.invariant.0)
 
-pub block-enter-own-requires : goal.block-enter-own-requires
-block-enter-own-requires t c =
-    record { stands = stmt_stands c.requires.0 c.loop-k.k (omega (arith, c.loop-k-test.true, c.field_at-count.ensures)) c.field_at-s.ensures; scope_stands = c.loop-k.invariant.2 }
-
-pub block-returns-in-Refused : goal.block-returns-in-Refused
-block-returns-in-Refused t c =
-    rw (block_is _ _ _ _ _ c.requires.0, ← c.field_at-count.ensures) (begun_halt c.loop-k.invariant.3 c.field_at-s.ensures (stmt_stands c.requires.0 c.loop-k.k (omega (arith, c.loop-k-test.true, c.field_at-count.ensures)) c.field_at-s.ensures) c.loop-k-test.true c.begin.ensures c.in-Refused.is)
-
-pub block-overflow_add-k-in-loop-k : goal.block-overflow_add-k-in-loop-k
-block-overflow_add-k-in-loop-k t c = omega (arith, c.loop-k-test.true, most c.requires.0 1 tt refl, c.field_at-count.ensures)
-
-pub block-loop-k-smaller : goal.block-loop-k-smaller
-block-loop-k-smaller t c = omega (arith, c.loop-k-test.true)
+pub block-returns-in_err-a : goal.block-returns-in_err-a
+block-returns-in_err-a t c =
+    rw (handed c.from_residual.ensures.1, block_is _ _ _ _ _ c.requires.0, ← c.field_at-count.ensures) (begun_halt c.loop-k.invariant.2 c.field_at-s.ensures (stmt_stands c.requires.0 c.loop-k.k (omega (arith, c.loop-k-test.true, c.field_at-count.ensures)) c.field_at-s.ensures) c.loop-k-test.true c.in_err-a.ensures)
 
 pub block-loop-k-preserved : goal.block-loop-k-preserved
 block-loop-k-preserved t c =
-    (simp length-set c.loop-k.invariant.0, omega (arith, c.loop-k-test.true), c.enter-own.ensures.stands, begun_next c.loop-k.invariant.3 _ c.field_at-s.ensures (stmt_stands c.requires.0 c.loop-k.k (omega (arith, c.loop-k-test.true, c.field_at-count.ensures)) c.field_at-s.ensures) c.loop-k-test.true (omega (arith, c.loop-k-test.true, most c.requires.0 1 tt refl, c.field_at-count.ensures, c.loop-k.invariant.0)) c.begin.ensures c.in-Node.is (enters_is _ c.enter-own.ensures c.begin.ensures c.in-Node.is))
+    (simp length-set c.loop-k.invariant.0, c.enter-own.ensures.stands, begun_next c.loop-k.invariant.2 _ c.field_at-s.ensures (stmt_stands c.requires.0 c.loop-k.k (omega (arith, c.loop-k-test.true, c.field_at-count.ensures)) c.field_at-s.ensures) c.loop-k-test.true (omega (arith, c.loop-k-test.true, most c.requires.0 1 tt refl, c.field_at-count.ensures, c.loop-k.invariant.0)) c.in_ok-a.ensures (enters_is _ c.enter-own.ensures c.in_ok-a.ensures))
 
 pub block-end-requires : goal.block-end-requires
-block-end-requires t c = ((omega (arith, c.decreases)), (c.requires.0, c.loop-k.invariant.2))
+block-end-requires t c = ((omega (arith, c.decreases)), (c.requires.0, c.loop-k.invariant.1))
+
+pub block-returns-in_err-last : goal.block-returns-in_err-last
+block-returns-in_err-last t c =
+    rw (handed c.from_residual-in_err-last.ensures.1, block_is _ _ _ _ _ c.requires.0, ← c.field_at-count.ensures) (begun_end_halt c.loop-k.invariant.2 c.loop-k-test.false c.loop-k.auto.k-end (rw (← c.field_at-count.ensures) at c.in_err-last.ensures))
+
+pub block-slice_bounds-begun-end : goal.block-slice_bounds-begun-end
+block-slice_bounds-begun-end t c = omega (arith, most c.requires.0 1 tt refl, c.field_at-count.ensures, c.loop-k.invariant.0)
+
+pub block-slice_bounds-values-end : goal.block-slice_bounds-values-end
+block-slice_bounds-values-end t c =
+    sym (length-take-le _ _ (omega (arith, most c.requires.0 1 tt refl, c.field_at-count.ensures, c.loop-k.invariant.0)))
 
 pub block-close_all-requires : goal.block-close_all-requires
 block-close_all-requires t c =
-    record { marked = c.requires.0; count_is = c.field_at-count.ensures; count_fits = omega (arith, most c.requires.0 1 tt refl, c.field_at-count.ensures, c.loop-k.invariant.0) }
+    record { marked = c.requires.0; count_is = length-take-le _ _ (omega (arith, most c.requires.0 1 tt refl, c.field_at-count.ensures, c.loop-k.invariant.0)) ∙ c.field_at-count.ensures }
 
-pub block-returns-in-Node-end : goal.block-returns-in-Node-end
-block-returns-in-Node-end t c =
-    rw (block_is _ _ _ _ _ c.requires.0, ← c.field_at-count.ensures) (begun_end c.loop-k.invariant.3 c.loop-k-test.false c.loop-k.invariant.1 (rw (← c.field_at-count.ensures) at c.end.ensures) c.in-Node-end.is c.close_all.ensures)
-
-pub block-returns-in-Refused-end : goal.block-returns-in-Refused-end
-block-returns-in-Refused-end t c =
-    rw (block_is _ _ _ _ _ c.requires.0, ← c.field_at-count.ensures) (begun_end_halt c.loop-k.invariant.3 c.loop-k-test.false c.loop-k.invariant.1 (rw (← c.field_at-count.ensures) at c.end.ensures) c.in-Refused-end.is)
+pub block-returns : goal.block-returns
+block-returns t c =
+    rw (block_is _ _ _ _ _ c.requires.0, ← c.field_at-count.ensures) (begun_end c.loop-k.invariant.2 c.loop-k-test.false c.loop-k.auto.k-end (omega (arith, most c.requires.0 1 tt refl, c.field_at-count.ensures, c.loop-k.invariant.0)) (rw (← c.field_at-count.ensures) at c.in_ok-last.ensures) c.close_all.ensures)
 
 pub body-plain_body-requires : goal.body-plain_body-requires
 body-plain_body-requires t c =
@@ -129,13 +127,13 @@ body-function-requires t c =
 pub body-fold_body-requires : goal.body-fold_body-requires
 body-fold_body-requires t c = c.requires.0
 
-pub body-returns-in-Node : goal.body-returns-in-Node
-body-returns-in-Node t c =
-    body_fold _ _ _ _ _ (sym c.is_functional.ensures ∙ c.if-not-is_functional.false) c.field_at-f.ensures c.function.ensures c.in-Node.is c.fold_body.ensures
+pub body-returns : goal.body-returns
+body-returns t c =
+    body_fold _ _ _ _ _ (sym c.is_functional.ensures ∙ c.if-not-is_functional.false) c.field_at-f.ensures c.in_ok-g.ensures c.fold_body.ensures
 
-pub body-returns-in-Refused : goal.body-returns-in-Refused
-body-returns-in-Refused t c =
-    body_halt _ _ _ _ _ (sym c.is_functional.ensures ∙ c.if-not-is_functional.false) c.field_at-f.ensures c.function.ensures c.in-Refused.is
+pub body-returns-in_err-g : goal.body-returns-in_err-g
+body-returns-in_err-g t c =
+    rw (handed c.from_residual.ensures.1) (body_halt _ _ _ _ _ (sym c.is_functional.ensures ∙ c.if-not-is_functional.false) c.field_at-f.ensures c.in_err-g.ensures)
 
 pub call-body-requires : goal.call-body-requires
 call-body-requires t c = ((omega (arith, c.decreases)), (c.requires.0, c.requires.1))
@@ -143,13 +141,13 @@ call-body-requires t c = ((omega (arith, c.decreases)), (c.requires.0, c.require
 pub call-finish-requires : goal.call-finish-requires
 call-finish-requires t c = c.requires.0
 
-pub call-returns-in-Node : goal.call-returns-in-Node
+pub call-returns : goal.call-returns
 unfolding call_run
-call-returns-in-Node t c = then _ c.body.ensures c.in-Node.is c.finish.ensures
+call-returns t c = then _ c.in_ok-b.ensures c.finish.ensures
 
-pub call-returns-in-Refused : goal.call-returns-in-Refused
+pub call-returns-in_err-b : goal.call-returns-in_err-b
 unfolding call_run
-call-returns-in-Refused t c = halt _ c.body.ensures c.in-Refused.is
+call-returns-in_err-b t c = rw (handed c.from_residual.ensures.1) (halt _ c.in_err-b.ensures)
 
 pub choose-field_at-e-requires : goal.choose-field_at-e-requires
 choose-field_at-e-requires t c = lies c.requires.0 1 tt
@@ -158,11 +156,11 @@ pub choose-expression-requires : goal.choose-expression-requires
 choose-expression-requires t c =
     ((omega (arith, c.decreases, head_less c.requires.0 1 EXPRESSION tt c.field_at-e.ensures)), (head_is c.requires.0 1 EXPRESSION tt c.field_at-e.ensures, c.requires.1))
 
-pub choose-returns-in-Node : goal.choose-returns-in-Node
-choose-returns-in-Node t c = choose_then _ _ _ _ _ _ c.field_at-e.ensures c.expression.ensures c.in-Node.is c.choose_arm.ensures
+pub choose-returns : goal.choose-returns
+choose-returns t c = choose_then _ _ _ _ _ _ c.field_at-e.ensures c.in_ok-s.ensures c.choose_arm.ensures
 
-pub choose-returns-in-Refused : goal.choose-returns-in-Refused
-choose-returns-in-Refused t c = choose_halt _ _ _ _ _ _ c.field_at-e.ensures c.expression.ensures c.in-Refused.is
+pub choose-returns-in_err-s : goal.choose-returns-in_err-s
+choose-returns-in_err-s t c = rw (handed c.from_residual.ensures.1) (choose_halt _ _ _ _ _ _ c.field_at-e.ensures c.in_err-s.ensures)
 
 pub complete-choose-requires : goal.complete-choose-requires
 complete-choose-requires t c = ((omega (arith, c.decreases)), (at_mark c.requires.0 EH c.if-m-eq-EH.true, c.requires.1))
@@ -207,37 +205,30 @@ pub element-returns : goal.element-returns
 element-returns t c = element_plain _ _ _ _ _ _ _ _ c.if-m-eq-EH.false c.field_at-e.ensures c.expression.ensures
 
 pub elements-loop-k-init : goal.elements-loop-k-init
-elements-loop-k-init t c = (refl, omega arith, suffices_start _ _ _ _ _ _ _ _ _ _ _ _ _ refl)
+elements-loop-k-init t c = suffices_start _ _ _ _ _ _ _ _ _ _ _ _ _ refl
 
 pub elements-overflow_mul-j : goal.elements-overflow_mul-j
-elements-overflow_mul-j t c = omega (arith, near_most _ _ c.requires.1.1.1.0.near (le_trans (le_of_lt c.loop-k-test.true) c.requires.1.1.1.0.few))
+elements-overflow_mul-j t c =
+    omega (arith, near_most _ _ c.requires.1.1.1.0.near (le_trans (le_of_lt (rw c.requires.1.1.1.1 at c.loop-k-test.true)) c.requires.1.1.1.0.few))
 
 pub elements-overflow_add-j : goal.elements-overflow_add-j
 elements-overflow_add-j t c =
-    omega (arith, c.requires.1.1.1.0.low, near_most _ _ c.requires.1.1.1.0.near (le_trans (le_of_lt c.loop-k-test.true) c.requires.1.1.1.0.few))
+    omega (arith, c.requires.1.1.1.0.low, near_most _ _ c.requires.1.1.1.0.near (le_trans (le_of_lt (rw c.requires.1.1.1.1 at c.loop-k-test.true)) c.requires.1.1.1.0.few))
 
 pub elements-element-requires : goal.elements-element-requires
 elements-element-requires t c =
-    ((omega (arith, c.decreases)), (c.requires.0, (c.requires.1.0, in_span c.requires.0 c.requires.1.1.0 c.requires.1.1.1.0 _ c.loop-k-test.true)))
+    ((omega (arith, c.decreases)), (c.requires.0, (c.requires.1.0, in_span c.requires.0 c.requires.1.1.0 c.requires.1.1.1.0 _ (rw c.requires.1.1.1.1 at c.loop-k-test.true))))
 
-pub elements-bounds-roots-k : goal.elements-bounds-roots-k
-elements-bounds-roots-k t c = omega (arith, c.loop-k-test.true, c.requires.1.1.1.0.few, c.requires.1.1.1.1, c.loop-k.invariant.0)
-
-pub elements-returns-in-Refused : goal.elements-returns-in-Refused
-elements-returns-in-Refused t c = (c.loop-k.invariant.0, suffices_halt c.loop-k.invariant.2 _ c.loop-k-test.true c.element.ensures c.in-Refused.is)
-
-pub elements-overflow_add-k : goal.elements-overflow_add-k
-elements-overflow_add-k t c = omega (arith, c.loop-k-test.true, c.requires.1.1.1.0.few)
-
-pub elements-loop-k-smaller : goal.elements-loop-k-smaller
-elements-loop-k-smaller t c = omega (arith, c.loop-k-test.true)
+pub elements-returns-in_err-a : goal.elements-returns-in_err-a
+elements-returns-in_err-a t c =
+    rw (handed c.from_residual.ensures.1) (suffices_halt c.loop-k.invariant _ (rw c.requires.1.1.1.1 at c.loop-k-test.true) c.in_err-a.ensures)
 
 pub elements-loop-k-preserved : goal.elements-loop-k-preserved
 elements-loop-k-preserved t c =
-    (simp length-set c.loop-k.invariant.0, omega (arith, c.loop-k-test.true), suffices_next c.loop-k.invariant.2 c.loop-k-test.true (omega (arith, c.loop-k-test.true, c.requires.1.1.1.0.few, c.requires.1.1.1.1, c.loop-k.invariant.0)) c.element.ensures c.in-Node.is)
+    suffices_next c.loop-k.invariant (rw c.requires.1.1.1.1 at c.loop-k-test.true) (omega arith) c.in_ok-a.ensures
 
 pub elements-returns : goal.elements-returns
-elements-returns t c = (c.loop-k.invariant.0, suffices_done c.loop-k.invariant.2 c.loop-k-test.false c.loop-k.invariant.1)
+elements-returns t c = suffices_done c.loop-k.invariant (omega (arith, c.requires.1.1.1.1)) (omega arith)
 
 pub end-field_at-n-requires : goal.end-field_at-n-requires
 end-field_at-n-requires t c = lies c.requires.0 1 tt
@@ -316,11 +307,11 @@ from_row-row-requires t c = ((omega (arith, c.decreases)), (c.requires.0, (c.req
 pub from_row-complete-requires : goal.from_row-complete-requires
 from_row-complete-requires t c = ((omega (arith, c.decreases)), (c.requires.0, c.requires.1.0))
 
-pub from_row-returns-in-Node : goal.from_row-returns-in-Node
-from_row-returns-in-Node t c = rw (row_is _ _ _ _ _ _ c.requires.1.1 c.requires.0) (then _ c.row.ensures c.in-Node.is c.complete.ensures)
+pub from_row-returns : goal.from_row-returns
+from_row-returns t c = rw (row_is _ _ _ _ _ _ c.requires.1.1 c.requires.0) (then _ c.in_ok-a.ensures c.complete.ensures)
 
-pub from_row-returns-in-Refused : goal.from_row-returns-in-Refused
-from_row-returns-in-Refused t c = rw (row_is _ _ _ _ _ _ c.requires.1.1 c.requires.0) (halt _ c.row.ensures c.in-Refused.is)
+pub from_row-returns-in_err-a : goal.from_row-returns-in_err-a
+from_row-returns-in_err-a t c = rw (handed c.from_residual.ensures.1, row_is _ _ _ _ _ _ c.requires.1.1 c.requires.0) (halt _ c.in_err-a.ensures)
 
 pub function-field_at-n-requires : goal.function-field_at-n-requires
 function-field_at-n-requires t c = head_lies c.requires FN (function_mark c.requires) 1 tt
@@ -338,45 +329,11 @@ function-returns t c = fn_done c.requires c.field_at-n.ensures c.field_at-e.ensu
 pub row-span_of-span-requires : goal.row-span_of-span-requires
 row-span_of-span-requires t c = c.requires.0
 
-pub row-elements-requires : goal.row-elements-requires
-row-elements-requires t c =
-    ((omega (arith, c.decreases)), (c.requires.0, (c.requires.1.0, (c.requires.1.1, (c.span_of-span.ensures, search rules)))))
+pub row-returns : goal.row-returns
+row-returns t c = row_then _ _ _ _ _ _ c.span_of-span.ensures c.in_ok-n.ensures c.gather.ensures
 
-pub row-gather-requires : goal.row-gather-requires
-row-gather-requires t c =
-    record { marked = c.requires.0; count_is = ap (λ (p : Span). p.count) c.span_of-span.ensures.is; count_in_range = c.span_of-span.ensures.few; count_fits = search rules }
-
-pub row-returns-in-To : goal.row-returns-in-To
-row-returns-in-To t c = row_then _ _ _ _ _ _ c.span_of-span.ensures c.elements.ensures.1 c.in-To.is c.gather.ensures
-
-pub row-returns-in-Refused : goal.row-returns-in-Refused
-row-returns-in-Refused t c = row_halt _ _ _ _ _ _ c.span_of-span.ensures c.elements.ensures.1 c.in-Refused.is
-
-pub second_arm-arm_at-right-requires : goal.second_arm-arm_at-right-requires
-second_arm-arm_at-right-requires t c = (lies c.requires.0 4 tt, lies c.requires.0 5 tt)
-
-pub second_arm-field_at-e-requires : goal.second_arm-field_at-e-requires
-second_arm-field_at-e-requires t c = lies c.requires.0 1 tt
-
-pub second_arm-arm-requires : goal.second_arm-arm-requires
-second_arm-arm-requires t c =
-    ((omega (arith, c.decreases, head_less c.requires.0 5 EXPRESSION tt c.arm_at-right.ensures.1)), (head_is c.requires.0 4 PATTERN tt c.arm_at-right.ensures.0, (head_is c.requires.0 5 EXPRESSION tt c.arm_at-right.ensures.1, c.requires.1)))
-
-pub second_arm-expression-requires : goal.second_arm-expression-requires
-second_arm-expression-requires t c =
-    ((omega (arith, c.decreases, head_less c.requires.0 1 EXPRESSION tt c.field_at-e.ensures)), (head_is c.requires.0 1 EXPRESSION tt c.field_at-e.ensures, c.requires.1))
-
-pub second_arm-returns-in-Node-expression : goal.second_arm-returns-in-Node-expression
-second_arm-returns-in-Node-expression t c =
-    second_is _ _ _ _ _ _ c.arm_at-right.ensures.0 c.arm_at-right.ensures.1 c.field_at-e.ensures (then _ c.arm.ensures c.in-Node.is (then _ c.expression.ensures c.in-Node-expression.is c.match_arms.ensures))
-
-pub second_arm-returns-in-Refused-expression : goal.second_arm-returns-in-Refused-expression
-second_arm-returns-in-Refused-expression t c =
-    second_is _ _ _ _ _ _ c.arm_at-right.ensures.0 c.arm_at-right.ensures.1 c.field_at-e.ensures (then _ c.arm.ensures c.in-Node.is (halt _ c.expression.ensures c.in-Refused-expression.is))
-
-pub second_arm-returns-in-Refused : goal.second_arm-returns-in-Refused
-second_arm-returns-in-Refused t c =
-    second_is _ _ _ _ _ _ c.arm_at-right.ensures.0 c.arm_at-right.ensures.1 c.field_at-e.ensures (halt _ c.arm.ensures c.in-Refused.is)
+pub row-returns-in_err-n : goal.row-returns-in_err-n
+row-returns-in_err-n t c = rw (handed c.from_residual.ensures.1) (row_halt _ _ _ _ _ _ c.span_of-span.ensures c.in_err-n.ensures)
 
 pub two_arms-arm_at-left-requires : goal.two_arms-arm_at-left-requires
 two_arms-arm_at-left-requires t c = (lies c.requires.0 2 tt, lies c.requires.0 3 tt)
@@ -385,33 +342,32 @@ pub two_arms-arm-requires : goal.two_arms-arm-requires
 two_arms-arm-requires t c =
     ((omega (arith, c.decreases, head_less c.requires.0 3 EXPRESSION tt c.arm_at-left.ensures.1)), (head_is c.requires.0 2 PATTERN tt c.arm_at-left.ensures.0, (head_is c.requires.0 3 EXPRESSION tt c.arm_at-left.ensures.1, c.requires.1)))
 
-pub two_arms-second_arm-requires : goal.two_arms-second_arm-requires
-two_arms-second_arm-requires t c = ((omega (arith, c.decreases)), (c.requires.0, c.requires.1))
+pub two_arms-arm_at-right-requires : goal.two_arms-arm_at-right-requires
+two_arms-arm_at-right-requires t c = (lies c.requires.0 4 tt, lies c.requires.0 5 tt)
 
-pub two_arms-returns-in-Node : goal.two_arms-returns-in-Node
-two_arms-returns-in-Node t c =
-    arms_is _ _ _ _ _ c.requires.0 c.arm_at-left.ensures.0 c.arm_at-left.ensures.1 (then _ c.arm.ensures c.in-Node.is c.second_arm.ensures)
+pub two_arms-field_at-e-requires : goal.two_arms-field_at-e-requires
+two_arms-field_at-e-requires t c = lies c.requires.0 1 tt
 
-pub two_arms-returns-in-Refused : goal.two_arms-returns-in-Refused
-two_arms-returns-in-Refused t c = arms_is _ _ _ _ _ c.requires.0 c.arm_at-left.ensures.0 c.arm_at-left.ensures.1 (halt _ c.arm.ensures c.in-Refused.is)
+pub two_arms-arm-requires-2 : goal.two_arms-arm-requires-2
+two_arms-arm-requires-2 t c =
+    ((omega (arith, c.decreases, head_less c.requires.0 5 EXPRESSION tt c.arm_at-right.ensures.1)), (head_is c.requires.0 4 PATTERN tt c.arm_at-right.ensures.0, (head_is c.requires.0 5 EXPRESSION tt c.arm_at-right.ensures.1, c.requires.1)))
 
-pub block-shape_of-nodes-in-Refused : goal.block-shape_of-nodes-in-Refused
-block-shape_of-nodes-in-Refused t c = (block-returns-in-Refused t c).kept
+pub two_arms-expression-requires : goal.two_arms-expression-requires
+two_arms-expression-requires t c =
+    ((omega (arith, c.decreases, head_less c.requires.0 1 EXPRESSION tt c.field_at-e.ensures)), (head_is c.requires.0 1 EXPRESSION tt c.field_at-e.ensures, c.requires.1))
 
-pub block-shape_of-nodes-in-Node-end : goal.block-shape_of-nodes-in-Node-end
-block-shape_of-nodes-in-Node-end t c = (block-returns-in-Node-end t c).kept
+pub two_arms-returns-in_err-a : goal.two_arms-returns-in_err-a
+two_arms-returns-in_err-a t c =
+    rw (handed c.from_residual.ensures.1) (arms_is _ _ c.requires.0 c.arm_at-left.ensures.0 c.arm_at-left.ensures.1 c.arm_at-right.ensures.0 c.arm_at-right.ensures.1 c.field_at-e.ensures (halt _ c.in_err-a.ensures))
 
-pub block-shape_of-nodes-in-Refused-end : goal.block-shape_of-nodes-in-Refused-end
-block-shape_of-nodes-in-Refused-end t c = (block-returns-in-Refused-end t c).kept
+pub two_arms-returns-in_err-b : goal.two_arms-returns-in_err-b
+two_arms-returns-in_err-b t c =
+    rw (handed c.from_residual-in_err-b.ensures.1) (arms_is _ _ c.requires.0 c.arm_at-left.ensures.0 c.arm_at-left.ensures.1 c.arm_at-right.ensures.0 c.arm_at-right.ensures.1 c.field_at-e.ensures (then _ c.in_ok-a.ensures (halt _ c.in_err-b.ensures)))
 
-pub elements-shape_of-roots-in-Refused : goal.elements-shape_of-roots-in-Refused
-elements-shape_of-roots-in-Refused t c = (elements-returns-in-Refused t c).0
+pub two_arms-returns-in_err-s : goal.two_arms-returns-in_err-s
+two_arms-returns-in_err-s t c =
+    rw (handed c.from_residual-in_err-s.ensures.1) (arms_is _ _ c.requires.0 c.arm_at-left.ensures.0 c.arm_at-left.ensures.1 c.arm_at-right.ensures.0 c.arm_at-right.ensures.1 c.field_at-e.ensures (then _ c.in_ok-a.ensures (then _ c.in_ok-b.ensures (halt _ c.in_err-s.ensures))))
 
-pub elements-shape_of-nodes-in-Refused : goal.elements-shape_of-nodes-in-Refused
-elements-shape_of-nodes-in-Refused t c = (elements-returns-in-Refused t c).1.kept
-
-pub elements-shape_of-roots : goal.elements-shape_of-roots
-elements-shape_of-roots t c = (elements-returns t c).0
-
-pub elements-shape_of-nodes : goal.elements-shape_of-nodes
-elements-shape_of-nodes t c = (elements-returns t c).1.kept
+pub two_arms-returns : goal.two_arms-returns
+two_arms-returns t c =
+    arms_is _ _ c.requires.0 c.arm_at-left.ensures.0 c.arm_at-left.ensures.1 c.arm_at-right.ensures.0 c.arm_at-right.ensures.1 c.field_at-e.ensures (then _ c.in_ok-a.ensures (then _ c.in_ok-b.ensures (then _ c.in_ok-s.ensures c.match_arms.ensures)))

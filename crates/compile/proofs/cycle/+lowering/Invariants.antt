@@ -1,6 +1,6 @@
 -- The lowering of expressions: each function of the cycle does what its definition says, and together they are `lower`.
 -- Assumes nothing.
-use Prim.Native.Nat.{◌+◌, ◌*◌, ◌-◌, ◌≤◌}
+use Prim.Native.Nat.{◌+◌, ◌*◌}
 use mathlib.Core.Path.{◌≡◌}
 use lib.ListN.{length}
 use Rattle.scope_bindings.specs.Scope.{scope_of, ScopeStands}
@@ -19,10 +19,7 @@ decreases-block l = l.r * 16 + 13
 
 abbrev pub invariant-block-loop-k : goal.invariant-block-loop-k
 invariant-block-loop-k l =
-    (length l.begun ≡ 256) × (l.k ≤ l.count) × ScopeStands l.book.bytes l.book.index l.own × Begun l.symbols l.book.bytes l.book.index l.r l.count (scope_of l.book.bytes l.book.index l.scope) l.initial.nodes l.initial.at l.nodes l.at l.k (scope_of l.book.bytes l.book.index l.own) l.begun
-
-abbrev pub decreases-block-loop-k : goal.decreases-block-loop-k
-decreases-block-loop-k l = l.count - l.k
+    (length l.begun ≡ 256) × ScopeStands l.book.bytes l.book.index l.own × Begun l.symbols l.book.bytes l.book.index l.r l.count (scope_of l.book.bytes l.book.index l.scope) l.initial.nodes l.initial.at l.nodes l.at l.k (scope_of l.book.bytes l.book.index l.own) l.begun
 
 abbrev pub decreases-body : goal.decreases-body
 decreases-body l = l.r * 16 + 7
@@ -44,10 +41,7 @@ decreases-elements l = l.r * 16 + 11
 
 abbrev pub invariant-elements-loop-k : goal.invariant-elements-loop-k
 invariant-elements-loop-k l =
-    (length l.roots ≡ length l.initial.roots) × (l.k ≤ l.count) × Suffices l.symbols l.book.bytes l.book.index l.r l.m (scope_of l.book.bytes l.book.index l.scope) l.span.stride l.span.from l.count l.initial.nodes l.initial.at l.nodes l.at l.k l.roots
-
-abbrev pub decreases-elements-loop-k : goal.decreases-elements-loop-k
-decreases-elements-loop-k l = l.count - l.k
+    Suffices l.symbols l.book.bytes l.book.index l.r l.m (scope_of l.book.bytes l.book.index l.scope) l.span.stride l.span.from l.span.count l.initial.nodes l.initial.at l.nodes l.at l.k l.roots
 
 abbrev pub decreases-end : goal.decreases-end
 decreases-end l = l.r * 16 + 10
@@ -63,9 +57,6 @@ decreases-function l = l.f * 16 + 15
 
 abbrev pub decreases-row : goal.decreases-row
 decreases-row l = l.r * 16 + 12
-
-abbrev pub decreases-second_arm : goal.decreases-second_arm
-decreases-second_arm l = l.r * 16 + 12
 
 abbrev pub decreases-two_arms : goal.decreases-two_arms
 decreases-two_arms l = l.r * 16 + 13
