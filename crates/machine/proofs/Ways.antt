@@ -6,14 +6,15 @@ use mathlib.Core.List.{List, [], ◌∷◌}
 use Prim.Native.Nat.{ℕ, ◌+◌, ◌≤◌, ◌<◌}
 use native.Mathlib.Nat.{eq-or-lt_of_le}
 use native.Mathlib.Omega.{arith}
-use Rattle.laws.specs.Table.{at, Rest, rest}
+use Rattle.laws.specs.Table.{Rest, rest}
 use Rattle.simplicity.specs.Jets.{jet_on}
 use Rattle.book.specs.declared.fault.Fault.TheVariants.{Stuck}
 use Rattle.cells.specs.Entries.{kind_at, left_at, right_at}
 use Rattle.nodes.specs.Given.{Given, cell_of}
 use Rattle.cells.specs.Cells.{shape_at, World, world, hold, fails, refuses, got, halt, bind, store, deliver}
 use Rattle.machine.specs.Run.{Runs, hand_on, witnessed, node_kinds, by_kind}
-use Rattle.machine.specs.Machine.{skip, second, beside, lefted, righted, paired, frame, holding, apply, weight, Branches}
+use Rattle.machine.specs.declared.Frame.TheVariants.{Skip, Second, Beside, Lefted, Righted, Paired}
+use Rattle.machine.specs.Machine.{apply, weight, Branches}
 use Rattle.cells.proofs.Outs.{add_none}
 use Rattle.cells.proofs.Shapes.{left_shape, right_shape, pair_shape, no_sum, no_pair}
 
@@ -58,29 +59,29 @@ module _ (g : Given) (n x : ℕ) (w : World) (kids : Runs) where
   kind_none k e {K} r = rw e (ap (λ (f : Runs). f n x w) (rest (node_kinds g kids) k (λ m y v. halt 0 (refuses Stuck) m) K r).1)
 
   -- nodes whose child is entered
-  pub kind_injl : (m : ℕ) → kind_at g.nodes n ≡ 3 → m ≡ left_at g.nodes n → by_kind g kids n x w ≡ apply g kids (frame 3 n) (kids m x w)
+  pub kind_injl : (m : ℕ) → kind_at g.nodes n ≡ 3 → m ≡ left_at g.nodes n → by_kind g kids n x w ≡ apply g kids (Lefted n) (kids m x w)
   unfolding by_kind apply
   kind_injl m e q = rw (e, q)
 
-  pub kind_injr : (m : ℕ) → kind_at g.nodes n ≡ 4 → m ≡ left_at g.nodes n → by_kind g kids n x w ≡ apply g kids (frame 4 n) (kids m x w)
+  pub kind_injr : (m : ℕ) → kind_at g.nodes n ≡ 4 → m ≡ left_at g.nodes n → by_kind g kids n x w ≡ apply g kids (Righted n) (kids m x w)
   unfolding by_kind apply
   kind_injr m e q = rw (e, q)
 
-  pub kind_comp : (m : ℕ) → kind_at g.nodes n ≡ 7 → m ≡ left_at g.nodes n → by_kind g kids n x w ≡ apply g kids (frame 1 n) (kids m x w)
+  pub kind_comp : (m : ℕ) → kind_at g.nodes n ≡ 7 → m ≡ left_at g.nodes n → by_kind g kids n x w ≡ apply g kids (Second n) (kids m x w)
   unfolding by_kind apply
   kind_comp m e q = rw (e, q)
 
-  pub kind_pair : (m : ℕ) → kind_at g.nodes n ≡ 9 → m ≡ left_at g.nodes n → by_kind g kids n x w ≡ apply g kids (frame 2 n) (kids m x (hold x w))
+  pub kind_pair : (m : ℕ) → kind_at g.nodes n ≡ 9 → m ≡ left_at g.nodes n → by_kind g kids n x w ≡ apply g kids (Beside n x) (kids m x (hold x w))
   unfolding by_kind apply
   kind_pair m e q = rw (e, q)
 
   pub kind_take : (m y : ℕ) → kind_at g.nodes n ≡ 5 → kind_at w.table x ≡ 4 → m ≡ left_at g.nodes n → y ≡ left_at w.table x
-      → by_kind g kids n x w ≡ apply g kids (frame 0 n) (kids m y w)
+      → by_kind g kids n x w ≡ apply g kids Skip (kids m y w)
   unfolding by_kind apply
   kind_take m y e p q r = rw (e, pair_shape w.table x p, q, r)
 
   pub kind_drop : (m y : ℕ) → kind_at g.nodes n ≡ 6 → kind_at w.table x ≡ 4 → m ≡ left_at g.nodes n → y ≡ right_at w.table x
-      → by_kind g kids n x w ≡ apply g kids (frame 0 n) (kids m y w)
+      → by_kind g kids n x w ≡ apply g kids Skip (kids m y w)
   unfolding by_kind apply
   kind_drop m y e p q r = rw (e, pair_shape w.table x p, q, r)
 
@@ -140,38 +141,35 @@ range_none k r o =
 
 -- THE FRAMES, on a value that comes back
 module _ (g : Given) (kids : Runs) (n v u : ℕ) (c hs : List ℕ) where
-  pub frame_skip : apply g kids (frame 0 n) (got 0 v (world u c hs)) ≡ got 0 v (world u c hs)
+  pub frame_skip : apply g kids Skip (got 0 v (world u c hs)) ≡ got 0 v (world u c hs)
   unfolding apply
   frame_skip = refl
 
-  pub frame_second : (m : ℕ) → m ≡ right_at g.nodes n → apply g kids (frame 1 n) (got 0 v (world u c hs)) ≡ apply g kids (frame 0 n) (kids m v (world u c hs))
+  pub frame_second : (m : ℕ) → m ≡ right_at g.nodes n → apply g kids (Second n) (got 0 v (world u c hs)) ≡ apply g kids Skip (kids m v (world u c hs))
   unfolding apply bind
   frame_second m q = rw q (add_none _)
 
-  pub frame_beside : (h m : ℕ) → m ≡ right_at g.nodes n → apply g kids (frame 2 n) (got 0 v (world u c (h ∷ hs))) ≡ apply g kids (frame 5 n) (kids m h (world u c (v ∷ hs)))
+  pub frame_beside : (h m : ℕ) → m ≡ right_at g.nodes n → apply g kids (Beside n h) (got 0 v (world u c (h ∷ hs))) ≡ apply g kids (Paired n v) (kids m h (world u c (v ∷ hs)))
   unfolding apply bind
   frame_beside h m q = rw q (add_none _)
 
-  pub frame_lefted : apply g kids (frame 3 n) (got 0 v (world u c hs)) ≡ store n 2 v 0 (world u c hs)
+  pub frame_lefted : apply g kids (Lefted n) (got 0 v (world u c hs)) ≡ store n 2 v 0 (world u c hs)
   unfolding apply bind
   frame_lefted = add_none _
 
-  pub frame_righted : apply g kids (frame 4 n) (got 0 v (world u c hs)) ≡ store n 3 v 0 (world u c hs)
+  pub frame_righted : apply g kids (Righted n) (got 0 v (world u c hs)) ≡ store n 3 v 0 (world u c hs)
   unfolding apply bind
   frame_righted = add_none _
 
-  pub frame_paired : (k h : ℕ) {K : Type 0} → Rest (0 ∷ 1 ∷ 2 ∷ 3 ∷ 4 ∷ []) k K → apply g kids (frame k n) (got 0 v (world u c (holding k h hs))) ≡ store n 4 h v (world u c hs)
+  pub frame_paired : (h : ℕ) → apply g kids (Paired n h) (got 0 v (world u c (h ∷ hs))) ≡ store n 4 h v (world u c hs)
   unfolding apply bind
-  frame_paired k h {K} r =
-      let a : frame k n ≡ paired n = (rest (at 0 skip ∷ at 1 (second n) ∷ at 2 (beside n) ∷ at 3 (lefted n) ∷ at 4 (righted n) ∷ []) k (paired n) K r).1 in
-      let b : holding k h hs ≡ h ∷ hs = (rest (at 0 hs ∷ at 1 hs ∷ at 2 (h ∷ hs) ∷ at 3 hs ∷ at 4 hs ∷ []) k (h ∷ hs) K r).1 in
-      rw (a, b) (add_none _)
+  frame_paired h = add_none _
 
 -- the frames whose other child is entered take turns still
-pub weight_second : (n : ℕ) → weight (frame 0 n) + 1 < weight (frame 1 n)
+pub weight_second : (n : ℕ) → weight Skip + 1 < weight (Second n)
 unfolding weight
 weight_second n = omega arith
 
-pub weight_beside : (n : ℕ) → weight (frame 5 n) + 1 < weight (frame 2 n)
+pub weight_beside : (n h v : ℕ) → weight (Paired n v) + 1 < weight (Beside n h)
 unfolding weight
-weight_beside n = omega arith
+weight_beside n h v = omega arith

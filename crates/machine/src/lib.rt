@@ -2,15 +2,16 @@
 // stack than another.
 #![tactic(auto)]
 
-ghost use Rattle.std.specs.Prelude.{◌≡◌, List, ℕ, ◌+◌, ◌≤◌, ◌<◌};
+ghost use Rattle.std.specs.Prelude.{◌≡◌, List, ℕ, ◌+◌, ◌≤◌, ◌<◌, length};
 ghost use Rattle.simplicity.specs.Jets.{jet_on};
 ghost use Rattle.cells.specs.Entries.{kind_at};
 ghost use Rattle.cells.specs.Cells.{shape_at, got, halt, deliver};
 ghost use Rattle.book.specs.Text.{Text, text};
 ghost use Rattle.nodes.specs.Given.{given};
 ghost use Rattle.machine.specs.Run.{DEEP, hand_on, witnessed};
-ghost use Rattle.machine.specs.Machine.{Answers, Backs, Branches, Deep, Downed, Entered, Handed, Sound, Stopped, Turned, end_of, future, stack};
+ghost use Rattle.machine.specs.Machine.{Answers, Backs, Branches, Downed, Entered, Handed, Sound, Stopped, Turned, end_of, ended_by, future};
 
+use book::fault::Fault;
 use book::record::Book;
 use book::word::word;
 use cells::jets::{JetEnd, run_jet};
@@ -20,112 +21,121 @@ use nodes::given::{entry, is_typed};
 // How deep a node may be entered.
 const DEEPEST: usize = 4096;
 
-// Modes. From FAILED on they say how the run ended; refusals by their numbers.
-const ENTER: u16 = 0;
+// What a run is lent beside the book: the witness list, the cell of each value record, and the node table.
+#[derive(Clone, Copy)]
+pub struct Lent<'a> {
+    pub witnesses: &'a [u8],
+    pub row: &'a [u16],
+    pub nodes: &'a [u8],
+}
 
-const BACK: u16 = 1;
+// What is next: a node is entered on a cell, or a cell is handed back to the newest frame.
+#[derive(Clone, Copy)]
+pub enum Step {
+    Enter,
+    Back,
+}
 
-const DONE: u16 = 2;
-
-const FAILED: u16 = 3;
-
-const STEEP: u16 = 16;
-
-const WITNESS: u16 = 17;
-
-const CELLS: u16 = 18;
-
-const STUCK: u16 = 19;
-
-const JET: u16 = 20;
-
-// Frames' codes: what is left to do once a child has given a value.
-const SKIP: u8 = 0;
-
-const SECOND: u8 = 1;
-
-const BESIDE: u8 = 2;
-
-const LEFTED: u8 = 3;
-
-const RIGHTED: u8 = 4;
-
-const PAIRED: u8 = 5;
-
-// A node to be entered on a cell, a cell to be handed back, or an end at a node; the number of frames and of cells.
+// How many frames there are, the node and the cell of the next step, and how many cells are used. Where a cell is handed back the node
+// is 0. The state must stay in registers: with a node carried along there a run took 4 hundredths longer, and with `depth` after the
+// numbers, where six bytes stay unused at the end, a third longer.
 #[derive(Clone, Copy)]
 pub struct State {
-    pub mode: u16,
+    pub depth: usize,
     pub node: u16,
     pub value: u16,
-    pub depth: usize,
     pub used: u16,
+    pub step: Step,
 }
 
-// Cell v is handed back.
-fn back_with(s: State, v: u16) -> State
-    ensures { Answers s (got 0 v) result }
-{
-    State {
-        mode: BACK,
-        node: s.node,
-        value: v,
-        depth: s.depth,
-        used: s.used,
+// Why a run ended without a value.
+#[derive(Clone, Copy)]
+pub enum Ended {
+    Failed,
+    Refused(Fault),
+}
+
+// That, and the node at which it ended.
+#[derive(Clone, Copy)]
+pub struct Halt {
+    pub end: Ended,
+    pub node: u16,
+}
+
+// What is left to do at a node once a child has given a value: to hand the value on; to run the other child on it, or on the cell that is
+// held; to store the left, the right of the value, or the pair of the cell that is held and the value.
+#[derive(Clone, Copy)]
+pub enum Frame {
+    Skip,
+    Second { node: u16 },
+    Beside { node: u16, held: u16 },
+    Lefted { node: u16 },
+    Righted { node: u16 },
+    Paired { node: u16, held: u16 },
+}
+
+impl From<JetEnd> for Ended {
+    ghost from_gives = { λ e r. r ≡ ended_by e };
+
+    fn from(end: JetEnd) -> Ended {
+        match end {
+            JetEnd::Failed => Ended::Failed,
+            JetEnd::Stuck => Ended::Refused(Fault::Stuck),
+            JetEnd::Unknown => Ended::Refused(Fault::Jet),
+        }
     }
 }
 
-// The run ends at the state's node.
-fn end_with(s: State, mode: u16) -> State
-    requires { 3 ≤ mode }
-    ensures { Answers s (λ w. halt 0 (end_of mode) s.node) result }
-{
-    State {
-        mode: mode,
-        node: s.node,
-        value: 0,
-        depth: s.depth,
-        used: s.used,
+impl State {
+    // Cell v is handed back.
+    fn back(self, v: u16) -> State
+        ensures { Answers self (got 0 v) (Ok result) }
+    {
+        State {
+            step: Step::Back,
+            node: 0,
+            value: v,
+            ..self
+        }
+    }
+
+    // The run ends at the state's node.
+    fn halt(self, end: Ended) -> Halt
+        ensures { Answers self (λ w. halt 0 (end_of end) self.node) (Err result) }
+    {
+        Halt {
+            end,
+            node: self.node,
+        }
+    }
+
+    // The last cell that was kept is handed back, or one did not fit.
+    fn back_kept(self, p: Kept) -> Result<State, Halt>
+        ensures { Backs self p result }
+    {
+        if p.full {
+            return Err(self.halt(Ended::Refused(Fault::Cells)));
+        }
+        Ok(State {
+            step: Step::Back,
+            node: 0,
+            value: p.cell,
+            used: p.used,
+            ..self
+        })
     }
 }
 
-// The last cell that was kept is handed back, or one did not fit.
-fn back_kept(s: State, p: Kept) -> State
-    ensures { Backs s p result }
-{
-    if p.full {
-        return end_with(s, CELLS);
-    }
-    State {
-        mode: BACK,
-        node: s.node,
-        value: p.cell,
-        depth: s.depth,
-        used: p.used,
-    }
-}
-
-// Puts a frame of this code at the state's node and depth, holding the cell h, and goes on to node m on cell y.
-fn down(
-    codes: &mut [u8],
-    places: &mut [u16],
-    held: &mut [u16],
-    s: State,
-    code: u8,
-    h: u16,
-    m: u16,
-    y: u16,
-) -> State
+// Puts a frame at the state's depth, and goes on to node m on cell y.
+fn down(frames: &mut [Frame], s: State, frame: Frame, m: u16, y: u16) -> State
     requires depth_in_range { s.depth < DEEP }
-    requires deep { Deep (stack codes.old places.old held.old) }
-    ensures { Downed (stack codes.old places.old held.old) s.depth code s.node h m y s.used (stack codes.new places.new held.new) result }
+    requires deep { length frames.old ≡ DEEP }
+    ensures { Downed frames.old s.depth frame m y s.used frames.new result }
 {
     let d = s.depth;
-    codes[d] = code;
-    places[d] = s.node;
-    held[d] = h;
+    frames[d] = frame;
     State {
-        mode: ENTER,
+        step: Step::Enter,
         node: m,
         value: y,
         depth: d + 1,
@@ -137,273 +147,207 @@ fn down(
 fn enter_part(
     nodes: &[u8],
     cells: &[u8],
-    codes: &mut [u8],
-    places: &mut [u16],
-    held: &mut [u16],
+    frames: &mut [Frame],
     s: State,
     kind: u8,
-) -> State
-    requires mode_is { (s.mode ≡ 0) × (s.depth < DEEP) }
-    requires deep { Deep (stack codes.old places.old held.old) }
+) -> Result<State, Halt>
+    requires step_is { (s.step ≡ Step.Enter) × (s.depth < DEEP) }
+    requires deep { length frames.old ≡ DEEP }
     requires kind_at_is { (kind_at nodes.now s.node ≡ kind) × ((5 ≤ kind) × (kind ≤ 6)) }
-    ensures { (b : Text) (ws : List ℕ) → Turned (given b ws nodes.now) cells.now (stack codes.old places.old held.old) s cells.now (stack codes.new places.new held.new) result }
+    ensures { (b : Text) (ws : List ℕ) → Turned (given b ws nodes.now) cells.now frames.old s cells.now frames.new result }
 {
     let x = s.value;
     if kind_at(cells, x) != PAIR {
-        return end_with(s, STUCK);
+        return Err(s.halt(Ended::Refused(Fault::Stuck)));
     }
     let m = left_at(nodes, s.node);
     if kind == 5 {
-        return down(codes, places, held, s, SKIP, 0, m, left_at(cells, x));
+        return Ok(down(frames, s, Frame::Skip, m, left_at(cells, x)));
     }
-    down(codes, places, held, s, SKIP, 0, m, right_at(cells, x))
+    Ok(down(frames, s, Frame::Skip, m, right_at(cells, x)))
 }
 
 // Hands child m the pair of a sum's part a and the rest e.
 fn hand_on(
     cells: &mut [u8],
-    codes: &mut [u8],
-    places: &mut [u16],
-    held: &mut [u16],
+    frames: &mut [Frame],
     s: State,
     m: u16,
     a: u16,
     e: u16,
-) -> State
+) -> Result<State, Halt>
     requires depth_in_range { s.depth < DEEP }
-    requires deep { Deep (stack codes.old places.old held.old) }
-    ensures { Entered cells.old (stack codes.old places.old held.old) s (λ kids. hand_on s.node a e (kids m)) cells.new (stack codes.new places.new held.new) result }
+    requires deep { length frames.old ≡ DEEP }
+    ensures { Entered cells.old frames.old s (λ kids. hand_on s.node a e (kids m)) cells.new frames.new result }
 {
     let p = keep(cells, from(s.used), PAIR, a, e);
     if p.full {
-        return end_with(s, CELLS);
+        return Err(s.halt(Ended::Refused(Fault::Cells)));
     }
-    let t = State {
-        mode: ENTER,
-        node: s.node,
-        value: 0,
-        depth: s.depth,
-        used: p.used,
-    };
-    down(codes, places, held, t, SKIP, 0, m, p.cell)
+    let t = State { used: p.used, ..s };
+    Ok(down(frames, t, Frame::Skip, m, p.cell))
 }
 
 // A case, or an assert, which fails on its hidden side.
 fn enter_case(
     nodes: &[u8],
     cells: &mut [u8],
-    codes: &mut [u8],
-    places: &mut [u16],
-    held: &mut [u16],
+    frames: &mut [Frame],
     s: State,
     kind: u8,
-) -> State
-    requires mode_is { (s.mode ≡ 0) × (s.depth < DEEP) }
-    requires deep { Deep (stack codes.old places.old held.old) }
+) -> Result<State, Halt>
+    requires step_is { (s.step ≡ Step.Enter) × (s.depth < DEEP) }
+    requires deep { length frames.old ≡ DEEP }
     requires kind_at_is { (kind_at nodes.now s.node ≡ kind) × Branches kind }
-    ensures { (b : Text) (ws : List ℕ) → Turned (given b ws nodes.now) cells.old (stack codes.old places.old held.old) s cells.new (stack codes.new places.new held.new) result }
+    ensures { (b : Text) (ws : List ℕ) → Turned (given b ws nodes.now) cells.old frames.old s cells.new frames.new result }
 {
     let x = s.value;
     if kind_at(cells, x) != PAIR {
-        return end_with(s, STUCK);
+        return Err(s.halt(Ended::Refused(Fault::Stuck)));
     }
     let sum = left_at(cells, x);
     let side = kind_at(cells, sum);
     let a = left_at(cells, sum);
     let e = right_at(cells, x);
-    if side == LEFT {
-        if kind == 11 {
-            return end_with(s, FAILED);
-        }
-        return hand_on(cells, codes, places, held, s, left_at(nodes, s.node), a, e);
+    match side {
+        LEFT if kind == 11 => Err(s.halt(Ended::Failed)),
+        LEFT => hand_on(cells, frames, s, left_at(nodes, s.node), a, e),
+        RIGHT if kind == 10 => Err(s.halt(Ended::Failed)),
+        RIGHT => hand_on(cells, frames, s, right_at(nodes, s.node), a, e),
+        _ => Err(s.halt(Ended::Refused(Fault::Stuck))),
     }
-    if side == RIGHT {
-        if kind == 10 {
-            return end_with(s, FAILED);
-        }
-        return hand_on(cells, codes, places, held, s, right_at(nodes, s.node), a, e);
-    }
-    end_with(s, STUCK)
 }
 
 // A witness: its name's entry, if it is of its type.
-fn enter_witness(book: &Book, witnesses: &[u8], row: &[u16], nodes: &[u8], s: State) -> State
-    requires { Sound book.now row.now }
-    ensures { Answers s (witnessed (given book.now witnesses.now nodes.now) s.node) result }
+fn enter_witness(book: &Book, lent: &Lent, s: State) -> Result<State, Halt>
+    requires { Sound book.now lent.now.row.now }
+    ensures { Answers s (witnessed (given book.now lent.now.witnesses.now lent.now.nodes.now) s.node) result }
 {
+    let Lent {
+        witnesses,
+        row,
+        nodes,
+    } = *lent;
     let at = 2 * (left_at(nodes, s.node) as usize);
     if at + 1 >= witnesses.len() {
-        return end_with(s, WITNESS);
+        return Err(s.halt(Ended::Refused(Fault::Witness)));
     }
     let r = word(witnesses, at);
     if is_typed(book, r, right_at(nodes, s.node)) {
-        return back_with(s, entry(row, r));
+        return Ok(s.back(entry(row, r)));
     }
-    end_with(s, WITNESS)
+    Err(s.halt(Ended::Refused(Fault::Witness)))
 }
 
 // A jet on the state's cell.
-fn enter_jet(cells: &mut [u8], s: State, j: u16) -> State
+fn enter_jet(cells: &mut [u8], s: State, j: u16) -> Result<State, Halt>
     ensures { Handed cells.old s.used s.depth (deliver s.node (jet_on (shape_at cells.old) j s.value)) cells.new result }
 {
     match run_jet(cells, s.used, j, s.value) {
-        Ok(p) => back_kept(s, p),
-        Err(JetEnd::Failed) => end_with(s, FAILED),
-        Err(JetEnd::Stuck) => end_with(s, STUCK),
-        Err(JetEnd::Unknown) => end_with(s, JET),
+        Ok(p) => s.back_kept(p),
+        Err(end) => Err(s.halt(Ended::from(end))),
     }
 }
 
 // Enters the node of the state.
 fn enter(
     book: &Book,
-    witnesses: &[u8],
-    row: &[u16],
-    nodes: &[u8],
+    lent: &Lent,
     cells: &mut [u8],
-    codes: &mut [u8],
-    places: &mut [u16],
-    held: &mut [u16],
+    frames: &mut [Frame],
     s: State,
-) -> State
-    requires sound { Sound book.now row.now }
-    requires deep { Deep (stack codes.old places.old held.old) }
-    requires mode_is { (s.mode ≡ 0) × (s.depth ≤ DEEP) }
-    ensures { Turned (given book.now witnesses.now nodes.now) cells.old (stack codes.old places.old held.old) s cells.new (stack codes.new places.new held.new) result }
+) -> Result<State, Halt>
+    requires sound { Sound book.now lent.now.row.now }
+    requires deep { length frames.old ≡ DEEP }
+    requires step_is { (s.step ≡ Step.Enter) × (s.depth ≤ DEEP) }
+    ensures { Turned (given book.now lent.now.witnesses.now lent.now.nodes.now) cells.old frames.old s cells.new frames.new result }
 {
     if s.depth >= DEEPEST {
-        return end_with(s, STEEP);
+        return Err(s.halt(Ended::Refused(Fault::Steep)));
     }
+    let nodes = lent.nodes;
     let n = s.node;
     let x = s.value;
     let kind = kind_at(nodes, n);
     match kind {
-        1 => back_with(s, x),
-        2 => back_with(s, 0),
-        3 => down(codes, places, held, s, LEFTED, 0, left_at(nodes, n), x),
-        4 => down(codes, places, held, s, RIGHTED, 0, left_at(nodes, n), x),
-        5..=6 => enter_part(nodes, cells, codes, places, held, s, kind),
-        7 => down(codes, places, held, s, SECOND, 0, left_at(nodes, n), x),
-        9 => down(codes, places, held, s, BESIDE, x, left_at(nodes, n), x),
-        8..=11 => enter_case(nodes, cells, codes, places, held, s, kind),
-        12 => end_with(s, FAILED),
-        13 => enter_witness(book, witnesses, row, nodes, s),
-        14 => back_with(s, entry(row, left_at(nodes, n))),
+        1 => Ok(s.back(x)),
+        2 => Ok(s.back(0)),
+        3 => Ok(down(frames, s, Frame::Lefted { node: n }, left_at(nodes, n), x)),
+        4 => Ok(down(frames, s, Frame::Righted { node: n }, left_at(nodes, n), x)),
+        5..=6 => enter_part(nodes, cells, frames, s, kind),
+        7 => Ok(down(frames, s, Frame::Second { node: n }, left_at(nodes, n), x)),
+        9 => Ok(down(
+            frames,
+            s,
+            Frame::Beside { node: n, held: x },
+            left_at(nodes, n),
+            x,
+        )),
+        8..=11 => enter_case(nodes, cells, frames, s, kind),
+        12 => Err(s.halt(Ended::Failed)),
+        13 => enter_witness(book, lent, s),
+        14 => Ok(s.back(entry(lent.row, left_at(nodes, n)))),
         15 => enter_jet(cells, s, left_at(nodes, n)),
-        _ => end_with(s, STUCK),
+        _ => Err(s.halt(Ended::Refused(Fault::Stuck))),
     }
 }
 
 // Hands the state's cell back to the newest frame.
-fn back_to(
-    nodes: &[u8],
-    cells: &mut [u8],
-    codes: &mut [u8],
-    places: &mut [u16],
-    held: &mut [u16],
-    s: State,
-) -> State
-    requires deep { Deep (stack codes.old places.old held.old) }
-    requires mode_is { (s.mode ≡ 1) × ((s.depth ≡ 0 → ⊥) × (s.depth ≤ DEEP)) }
-    ensures { (b : Text) (ws : List ℕ) → Turned (given b ws nodes.now) cells.old (stack codes.old places.old held.old) s cells.new (stack codes.new places.new held.new) result }
+fn back_to(nodes: &[u8], cells: &mut [u8], frames: &mut [Frame], s: State) -> Result<State, Halt>
+    requires deep { length frames.old ≡ DEEP }
+    requires step_is { (s.step ≡ Step.Back) × ((s.depth ≡ 0 → ⊥) × (s.depth ≤ DEEP)) }
+    ensures { (b : Text) (ws : List ℕ) → Turned (given b ws nodes.now) cells.old frames.old s cells.new frames.new result }
 {
     let d = s.depth - 1;
     let v = s.value;
-    let h = held[d];
     let t = State {
-        mode: BACK,
-        node: places[d],
-        value: v,
         depth: d,
-        used: s.used,
+        node: 0,
+        ..s
     };
-    match codes[d] {
-        SKIP => t,
-        SECOND => down(codes, places, held, t, SKIP, 0, right_at(nodes, t.node), v),
-        BESIDE => down(
-            codes,
-            places,
-            held,
-            t,
-            PAIRED,
-            v,
-            right_at(nodes, t.node),
-            h,
-        ),
-        LEFTED => back_kept(t, keep(cells, from(t.used), LEFT, v, 0)),
-        RIGHTED => back_kept(t, keep(cells, from(t.used), RIGHT, v, 0)),
-        _ => back_kept(t, keep(cells, from(t.used), PAIR, h, v)),
+    match frames[d] {
+        Frame::Skip => Ok(t),
+        Frame::Second { node } => Ok(down(frames, t, Frame::Skip, right_at(nodes, node), v)),
+        Frame::Beside { node, held } => {
+            let frame = Frame::Paired { node, held: v };
+            Ok(down(frames, t, frame, right_at(nodes, node), held))
+        }
+        Frame::Lefted { node } => {
+            State { node, ..t }.back_kept(keep(cells, from(t.used), LEFT, v, 0))
+        }
+        Frame::Righted { node } => {
+            State { node, ..t }.back_kept(keep(cells, from(t.used), RIGHT, v, 0))
+        }
+        Frame::Paired { node, held } => {
+            State { node, ..t }.back_kept(keep(cells, from(t.used), PAIR, held, v))
+        }
     }
 }
 
-// Hands the state's cell back: where no frame is left the run is done.
-fn back(
-    nodes: &[u8],
-    cells: &mut [u8],
-    codes: &mut [u8],
-    places: &mut [u16],
-    held: &mut [u16],
-    s: State,
-) -> State
-    requires deep { Deep (stack codes.old places.old held.old) }
-    requires mode_is { (s.mode ≡ 1) × (s.depth ≤ DEEP) }
-    ensures { (b : Text) (ws : List ℕ) → Turned (given b ws nodes.now) cells.old (stack codes.old places.old held.old) s cells.new (stack codes.new places.new held.new) result }
-{
-    if s.depth == 0 {
-        return State {
-            mode: DONE,
-            node: s.node,
-            value: s.value,
-            depth: 0,
-            used: s.used,
-        };
-    }
-    back_to(nodes, cells, codes, places, held, s)
-}
-
-// Enters a node, or hands a cell back.
-fn turn(
-    book: &Book,
-    witnesses: &[u8],
-    row: &[u16],
-    nodes: &[u8],
-    cells: &mut [u8],
-    codes: &mut [u8],
-    places: &mut [u16],
-    held: &mut [u16],
-    s: State,
-) -> State
-    requires sound { Sound book.now row.now }
-    requires deep { Deep (stack codes.old places.old held.old) }
-    requires mode_in_range { (s.mode < 2) × (s.depth ≤ DEEP) }
-    ensures { Turned (given book.now witnesses.now nodes.now) cells.old (stack codes.old places.old held.old) s cells.new (stack codes.new places.new held.new) result }
-{
-    if s.mode == ENTER {
-        return enter(book, witnesses, row, nodes, cells, codes, places, held, s);
-    }
-    back(nodes, cells, codes, places, held, s)
-}
-
-// Turns until the run has ended.
+// Turns until the run has ended, with the cell that is handed back last, or without one.
 pub fn drive(
     book: &Book,
-    witnesses: &[u8],
-    row: &[u16],
-    nodes: &[u8],
+    lent: &Lent,
     cells: &mut [u8],
-    codes: &mut [u8],
-    places: &mut [u16],
-    held: &mut [u16],
+    frames: &mut [Frame],
     start: State,
-) -> State
-    requires sound { Sound book.now row.now }
-    requires deep { Deep (stack codes.old places.old held.old) }
+) -> Result<State, Halt>
+    requires sound { Sound book.now lent.now.row.now }
+    requires deep { length frames.old ≡ DEEP }
     requires start_depth_in_range { start.depth ≤ DEEP }
-    ensures { Stopped (future (given book.now witnesses.now nodes.now) cells.old (stack codes.old places.old held.old) start) cells.new result }
+    ensures { Stopped (future (given book.now lent.now.witnesses.now lent.now.nodes.now) cells.old frames.old start) cells.new result }
 {
     let mut s = start;
-    while s.mode < DONE {
-        s = turn(book, witnesses, row, nodes, cells, codes, places, held, s);
+    'turns: loop {
+        let next = match s.step {
+            Step::Enter => enter(book, lent, cells, frames, s),
+            Step::Back => {
+                if s.depth == 0 {
+                    return Ok(s);
+                }
+                back_to(lent.nodes, cells, frames, s)
+            }
+        };
+        s = next?;
     }
-    s
 }

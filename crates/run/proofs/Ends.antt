@@ -3,14 +3,14 @@
 use Rattle.std.specs.declared.result.Result.{Result}
 use Rattle.std.specs.declared.result.Result.TheVariants.{Ok, Err}
 use mathlib.Core.Path.{◌≡◌, refl, sym, ap, ◌∙◌}
-use mathlib.Core.List.{List, [], ◌∷◌}
+use mathlib.Core.List.{List, []}
 use mathlib.Core.Bool.{Bool, true, false}
 use Prim.Native.Nat.{ℕ, ◌-◌, ◌≤◌, ◌<◌}
 use native.Mathlib.Omega.{arith}
 use lib.ListN.{length, length-replicate}
 use lib.Dec.{eqb, ltb}
-use borrow.Author.Tests.{ne_eqb, eqb-false, ltb-false}
-use Rattle.laws.specs.Table.{pick, Rest, at, rest}
+use borrow.Author.Tests.{eqb-false, ltb-false}
+use Rattle.laws.specs.Table.{pick}
 use Rattle.book.specs.Faults.{refusal}
 use Rattle.book.specs.Read.{read_of, index_of}
 use Rattle.book.specs.Valid.{Valid}
@@ -30,16 +30,14 @@ use Rattle.cells.specs.Cells.{world, fails, refuses, Out, got, halt, add, bind}
 use Rattle.cells.specs.Keeping.{leads}
 use Rattle.machine.specs.Run.{DEEP, run}
 use Rattle.run.specs.Whole.{seeds, ended, result_of, after_read, resulting, answer_of, cells_of, run_of, table_of}
-use Rattle.machine.specs.Machine.{Stack, frames, waiting, resume, end_of, over_at, going_on, future, Stopped}
+use Rattle.machine.specs.declared.Step.TheVariants.{Enter}
+use Rattle.machine.specs.declared.Halt.{Halt}
+use Rattle.machine.specs.declared.Ended.TheVariants.{Failed, Refused}
+use Rattle.machine.specs.declared.Frame.{Frame}
+use Rattle.machine.specs.Machine.{frames, waiting, resume, over_at, going_on, future, Stopped}
+use Rattle.std.specs.Prelude.{Result, Ok, Err}
 use Rattle.run.specs.Calls.{Started, Answered}
 use Rattle.cells.proofs.Outs.{bind_got}
-
--- the refusals that end a run
-pub end_other : (m : ℕ) {K : Type 0} → Rest (16 ∷ 17 ∷ 18 ∷ 19 ∷ []) m K → (m ≡ 3 → ⊥) → refuses faults.Jet ≡ end_of m
-end_other m {K} r h =
-    sym
-    (rw (ne_eqb m 3 h)
-    (rest (at 16 (refuses faults.Steep) ∷ at 17 (refuses faults.Witness) ∷ at 18 (refuses faults.Cells) ∷ at 19 (refuses faults.Stuck) ∷ []) m (refuses faults.Jet) K r).1)
 
 -- nodes entered before change no result
 result_add : (t : ℕ) (o : Out) → result_of (add t o) ≡ result_of o
@@ -49,23 +47,22 @@ result_add t (halt s fails n) = refl
 result_add t (halt s (refuses f) n) = refl
 
 -- WHAT AN END ANSWERS
-module _ (t : List ℕ) (s : State) where
-  pub answers_value : s.mode ≡ 2 → (hs : List ℕ) → Answered (result_of (over_at s.mode s.node s.value (world s.used t hs))) (length t) (Ok (outcomes.Value s.value s.used)) t
-  answers_value e hs = record { answer = rw e; table = rw e }
+module _ (t : List ℕ) {r : Result State Halt} where
+  pub answers_value : {s : State} → r ≡ Ok s → Answered (result_of (over_at t r)) (length t) (Ok (outcomes.Value s.value s.used)) t
+  answers_value e = record { answer = rw e; table = rw e }
 
-  pub answers_failed : {t' : List ℕ} → s.mode ≡ 3 → t' ≡ zeros (length t)
-      → (hs : List ℕ) → Answered (result_of (over_at s.mode s.node s.value (world s.used t hs))) (length t) (Ok outcomes.Failed) t'
-  answers_failed e z hs = record { answer = rw e; table = rw e z }
+  module _ {h : Halt} {t' : List ℕ} (e : r ≡ Err h) (z : t' ≡ zeros (length t)) where
+    pub answers_failed : h.end ≡ Failed → Answered (result_of (over_at t r)) (length t) (Ok outcomes.Failed) t'
+    answers_failed f = record { answer = rw (e, f); table = rw (e, f) z }
 
-  pub answers_refused : {f : Fault} {t' : List ℕ} → (s.mode ≡ 2 → ⊥) → refuses f ≡ end_of s.mode → t' ≡ zeros (length t)
-      → (hs : List ℕ) → Answered (result_of (over_at s.mode s.node s.value (world s.used t hs))) (length t) (Err (refusal f s.node)) t'
-  answers_refused {f} h e z hs = let q : eqb s.mode 2 ≡ false = ne_eqb s.mode 2 h in record { answer = rw (q, ← e); table = rw (q, ← e) z }
+    pub answers_refused : {w : Fault} → h.end ≡ Refused w → Answered (result_of (over_at t r)) (length t) (Err (refusal w h.node)) t'
+    answers_refused f = record { answer = rw (e, f); table = rw (e, f) z }
 
 -- THE MACHINE'S START: a node on a cell, no frame
-pub machine_starts : (g : Given) (n u : ℕ) (t : List ℕ) (f : Stack) {t' : List ℕ} {r : State}
-    → Stopped (future g t f (record { mode = 0; node = n; value = 0; depth = 0; used = u })) t' r → Stopped (run DEEP g n 0 (world u t [])) t' r
+pub machine_starts : (g : Given) (n u : ℕ) (t : List ℕ) (f : List Frame) {t' : List ℕ} {r : Result State Halt}
+    → Stopped (future g t f (record { depth = 0; node = n; value = 0; used = u; step = Enter })) t' r → Stopped (run DEEP g n 0 (world u t [])) t' r
 unfolding future going_on frames waiting resume
-machine_starts g n u t f p = record { t = p.t; held = p.held; over = p.over; same = p.same }
+machine_starts g n u t f p = record { t = p.t; same = p.same }
 
 -- THE RUN, after the initial cells
 module _ (g : Given) (c : ℕ) {t t₁ : List ℕ} {p : Kept} (z : t ≡ zeros (length t)) (s : Started g.book g.book.records t p t₁) where
@@ -78,14 +75,13 @@ module _ (g : Given) (c : ℕ) {t t₁ : List ℕ} {p : Kept} (z : t ≡ zeros (
   unfolding leads bind
   table_full e l y = let q : ended g c (length t) ≡ halt 0 (refuses faults.Cells) 0 = ended_leads ∙ rw e in record { answer = rw q; table = rw q (rw l at y) }
 
-  pub table_ran : {m : ℕ} {t₂ : List ℕ} {r : State} {a : RunAnswer} {t₃ : List ℕ} → p.full ≡ false → Stopped (run DEEP g (c - 1) 0 (world p.used t₁ [])) t₂ r
-      → m ≡ length t → ((hs : List ℕ) → Answered (result_of (over_at r.mode r.node r.value (world r.used t₂ hs))) m a t₃)
+  pub table_ran : {m : ℕ} {t₂ : List ℕ} {r : Result State Halt} {a : RunAnswer} {t₃ : List ℕ} → p.full ≡ false → Stopped (run DEEP g (c - 1) 0 (world p.used t₁ [])) t₂ r
+      → m ≡ length t → Answered (result_of (over_at t₂ r)) m a t₃
       → Answered (result_of (ended g c (length t))) (length t) a t₃
   unfolding leads
   table_ran {t₂ = t₂} {r = r} e st l an =
-      let q : ended g c (length t) ≡ add st.t (over_at r.mode r.node r.value (world r.used t₂ st.held)) = ended_leads ∙ rw e (bind_got p.cell (world p.used t₁ []) (λ v. run DEEP g (c - 1) 0) ∙ st.same) in
-      let b = an st.held in
-      record { answer = b.answer ∙ ap answer_of (sym (ap result_of q ∙ result_add st.t _)); table = rw l at b.table ∙ ap (cells_of (length t)) (sym (ap result_of q ∙ result_add st.t _)) }
+      let q : ended g c (length t) ≡ add st.t (over_at t₂ r) = ended_leads ∙ rw e (bind_got p.cell (world p.used t₁ []) (λ v. run DEEP g (c - 1) 0) ∙ st.same) in
+      record { answer = an.answer ∙ ap answer_of (sym (ap result_of q ∙ result_add st.t _)); table = rw l at an.table ∙ ap (cells_of (length t)) (sym (ap result_of q ∙ result_add st.t _)) }
 
 -- AFTER READ: the check
 bad_well : {p : ℕ} → ◌≡◌ {A = Judged} (Err p) (Ok tt) → ⊥

@@ -21,13 +21,11 @@ pub fn number_values(book: &Book, row: &mut [u16])
     ensures { Placed book.now row.new }
 {
     let mut next: u16 = 1;
-    let mut r: u16 = 0;
-    while r < book.records() {
+    for r in 0..book.records() {
         if is_of(book, VALUE, r) {
             row[r as usize] = next;
             next += 1;
         }
-        r += 1;
     }
 }
 
@@ -60,9 +58,10 @@ fn seed_one(book: &Book, row: &[u16], r: u16, cells: &mut [u8], p: Kept) -> Kept
     ensures { Seeded cells.old p (seed_one book.now r) result cells.new }
 {
     if is_of(book, VALUE, r) {
-        return seed_value(book, row, r, cells, p);
+        seed_value(book, row, r, cells, p)
+    } else {
+        p
     }
-    p
 }
 
 // Cell 0 and the values' cells.
@@ -71,10 +70,8 @@ pub fn seed_cells(book: &Book, row: &[u16], cells: &mut [u8]) -> Kept
     ensures { Started book.now book.now.records cells.old result cells.new }
 {
     let mut p = keep(cells, from(0), UNIT, 0, 0);
-    let mut r: u16 = 0;
-    while r < book.records() {
+    for r in 0..book.records() {
         p = seed_one(book, row, r, cells, p);
-        r += 1;
     }
     p
 }

@@ -3,19 +3,19 @@
 
 ghost use Rattle.std.specs.Prelude.{◌≡◌, ℕ, ◌≤◌, ◌<◌, length, replicate, List, []};
 ghost use Rattle.book.specs.Valid.{Valid};
-ghost use Rattle.cells.specs.Cells.{world, refuses};
+ghost use Rattle.cells.specs.Cells.{world};
 ghost use Rattle.book.specs.Text.{text};
 ghost use Rattle.nodes.specs.Given.{given};
 ghost use Rattle.machine.specs.Run.{DEEP, run};
 ghost use Rattle.run.specs.Whole.{ended, result_of, after_read, run_of, table_of};
 ghost use Rattle.run.specs.Calls.{Answered};
-ghost use Rattle.machine.specs.Machine.{Sound, Stopped, end_of, over_at};
+ghost use Rattle.machine.specs.Machine.{Sound, Stopped, over_at};
 
 use crate::initial::{number_values, seed_cells};
 use book::fault::{Fault, Refusal};
 use book::read::index_book;
 use book::record::Book;
-use machine::{State, drive};
+use machine::{Ended, Frame, Halt, Lent, State, Step, drive};
 use named::table::clear;
 use nodes::check::judge_table;
 
@@ -89,7 +89,7 @@ fn run_table(
             place: 0,
         });
     }
-    let s = run_machine(
+    let end = run_machine(
         book,
         witnesses,
         &row,
@@ -98,7 +98,7 @@ fn run_table(
         (count - 1) as u16,
         p.used,
     );
-    answer_of(cells, s)
+    answer_of(cells, end)
 }
 
 // The machine's end, from node `last` on cell 0.
@@ -110,64 +110,44 @@ fn run_machine(
     cells: &mut [u8],
     last: u16,
     used: u16,
-) -> State
+) -> Result<State, Halt>
     requires { Sound book.now row.now }
     ensures { Stopped (run DEEP (given book.now witnesses.now nodes.now) last 0 (world used cells.old [])) cells.new result }
 {
-    let mut codes = [0u8; 4096];
-    let mut places = [0u16; 4096];
-    let mut held = [0u16; 4096];
+    let mut frames = [Frame::Skip; 4096];
     let start = State {
-        mode: 0,
+        depth: 0,
         node: last,
         value: 0,
-        depth: 0,
-        used: used,
+        used,
+        step: Step::Enter,
     };
-    drive(
-        book,
+    let lent = Lent {
         witnesses,
         row,
         nodes,
-        cells,
-        &mut codes,
-        &mut places,
-        &mut held,
-        start,
-    )
-}
-
-// A refusal that ended a run, by its number.
-fn fault_of(mode: u16) -> Fault
-    requires { (2 < mode) × (mode ≡ 3 → ⊥) }
-    ensures { refuses result ≡ end_of mode }
-{
-    match mode {
-        16 => Fault::Steep,
-        17 => Fault::Witness,
-        18 => Fault::Cells,
-        19 => Fault::Stuck,
-        _ => Fault::Jet,
-    }
+    };
+    drive(book, &lent, cells, &mut frames, start)
 }
 
 // What a run that ended answers. A failure and a refusal leave no cells.
-fn answer_of(cells: &mut [u8], s: State) -> Result<Outcome, Refusal>
-    requires { 2 ≤ s.mode }
-    ensures { (hs : List ℕ) → Answered (result_of (over_at s.mode s.node s.value (world s.used cells.old hs))) (length cells.old) result cells.new }
+fn answer_of(cells: &mut [u8], end: Result<State, Halt>) -> Result<Outcome, Refusal>
+    ensures { Answered (result_of (over_at cells.old end)) (length cells.old) result cells.new }
 {
-    if s.mode == 2 {
-        return Ok(Outcome::Value {
+    match end {
+        Ok(s) => Ok(Outcome::Value {
             cell: s.value,
             count: s.used,
-        });
+        }),
+        Err(halt) => {
+            clear(cells);
+            match halt.end {
+                Ended::Failed => Ok(Outcome::Failed),
+                Ended::Refused(fault) => Err(Refusal {
+                    fault,
+                    place: halt.node,
+                }),
+            }
+        }
     }
-    clear(cells);
-    if s.mode == 3 {
-        return Ok(Outcome::Failed);
-    }
-    Err(Refusal {
-        fault: fault_of(s.mode),
-        place: s.node,
-    })
 }

@@ -1,34 +1,29 @@
 -- `drive` meets its contract: turns until the run has ended.
 -- Assumes nothing.
-use Rattle.machine.proofs.Turns.{left_less, going_none, going_more, going_stopped}
-use native.Mathlib.Omega.{arith}
+use Rattle.machine.proofs.Turns.{left_less, going_none, going_more, going_stopped, going_ended}
+use Rattle.std.proofs.lemmas.Result.{err_from_is_err_and}
 use Rattle.machine.proofs.drive.Goals as goal
+use Rattle.machine.proofs.drive.Goals.{in-Enter, in-Back+else-s-eq0}
 
-pub loop-s-init : goal.loop-s-init
-loop-s-init c = going_none c.requires.start_depth_in_range c.requires.deep
+pub turns-init : goal.turns-init
+turns-init c = going_none c.requires.start_depth_in_range c.requires.deep
 
-pub turn-s-requires : goal.turn-s-requires
-turn-s-requires c =
-    record { sound = c.requires.sound; deep = c.loop-s.invariant.deep; mode_in_range = (c.loop-s-test.true, c.loop-s.invariant.depth) }
+pub turns-smaller : goal.turns-smaller
+turns-smaller c =
+    left_less {c' = c.match-s.cells} {f' = c.match-s.frames} c.in_ok-s.was
+    (elim c.match-s.branch [ in-Enter w ↦ rw (w.cells-is, w.frames-is, w.next-is) w.enter-next.ensures | in-Back+else-s-eq0 w ↦ rw (w.cells-is, w.frames-is, w.next-is) (w.back_to-next.ensures _ _) ])
 
-pub loop-s-smaller : goal.loop-s-smaller
-loop-s-smaller c = left_less c.turn-s.ensures
+pub turns-preserved : goal.turns-preserved
+turns-preserved c =
+    going_more c.turns.invariant {c' = c.match-s.cells} {f' = c.match-s.frames} c.in_ok-s.was c.match-s.auto.cells c.match-s.auto.frames
+    (elim c.match-s.branch [ in-Enter w ↦ rw (w.cells-is, w.frames-is, w.next-is) w.enter-next.ensures | in-Back+else-s-eq0 w ↦ rw (w.cells-is, w.frames-is, w.next-is) (w.back_to-next.ensures _ _) ])
 
-pub loop-s-preserved : goal.loop-s-preserved
-loop-s-preserved c =
-    going_more c.loop-s.invariant c.turn-s.ensures c.turn-s.auto.cells c.turn-s.auto.codes c.turn-s.auto.places c.turn-s.auto.held
+pub returns-in_err-s : goal.returns-in_err-s
+returns-in_err-s c =
+    let p = err_from_is_err_and c.from_residual.result c.from_residual.ensures.1 in
+    rw (p.1, p.2)
+    (going_ended c.turns.invariant {c' = c.match-s.cells} {f' = c.match-s.frames} c.in_err-s.was
+    (elim c.match-s.branch [ in-Enter w ↦ rw (w.cells-is, w.frames-is, w.next-is) w.enter-next.ensures | in-Back+else-s-eq0 w ↦ rw (w.cells-is, w.frames-is, w.next-is) (w.back_to-next.ensures _ _) ]))
 
-pub shape_of-cells : goal.shape_of-cells
-shape_of-cells c = c.loop-s.invariant.table
-
-pub shape_of-codes : goal.shape_of-codes
-shape_of-codes c = omega (arith, c.loop-s.invariant.deep, c.requires.deep)
-
-pub shape_of-places : goal.shape_of-places
-shape_of-places c = omega (arith, c.loop-s.invariant.deep, c.requires.deep)
-
-pub shape_of-held : goal.shape_of-held
-shape_of-held c = omega (arith, c.loop-s.invariant.deep, c.requires.deep)
-
-pub returns : goal.returns
-returns c = going_stopped c.loop-s.invariant c.loop-s-test.false
+pub returns-then-s-eq0 : goal.returns-then-s-eq0
+returns-then-s-eq0 c = going_stopped c.turns.invariant c.in-Back.is c.if-s-eq0.true

@@ -11,62 +11,62 @@ use Rattle.machine.proofs.enter.Goals as goal
 use Rattle.machine.proofs.enter.Goals.{in-8-1, in_default+else-kind-lt1+else-kind-lt7+then-kind-lt12, in_default-via-then-kind-lt1, in_default-via-else-kind-lt1+else-kind-lt7+else-kind-lt12}
 
 pub returns-then-s-ge-DEEPEST : goal.returns-then-s-ge-DEEPEST
-returns-then-s-ge-DEEPEST c = turned_steep c.requires.mode_is.0 (omega (arith, c.if-s-ge-DEEPEST.true, c.requires.mode_is.1)) c.end_with.ensures
+returns-then-s-ge-DEEPEST c = turned_steep c.requires.step_is.0 (omega (arith, c.if-s-ge-DEEPEST.true, c.requires.step_is.1)) c.halt.ensures
 
 pub enter_part-requires : goal.enter_part-requires
 enter_part-requires c =
-    record { mode_is = (c.requires.mode_is.0, c.if-s-ge-DEEPEST.false); deep = c.requires.deep; kind_at_is = (sym c.kind_at-kind.ensures, range_part _ c.in-5-to-6.in_default-own.rest c.in-5-to-6.if-kind-lt1-own.false c.in-5-to-6.if-kind-lt7-own.true) }
+    record { step_is = (c.requires.step_is.0, c.if-s-ge-DEEPEST.false); deep = c.requires.deep; kind_at_is = (sym c.kind_at-kind.ensures, range_part _ c.in-5-to-6.in_default-own.rest c.in-5-to-6.if-kind-lt1-own.false c.in-5-to-6.if-kind-lt7-own.true) }
 
 pub enter_case-requires : goal.enter_case-requires
 enter_case-requires c =
-    record { mode_is = (c.requires.mode_is.0, c.if-s-ge-DEEPEST.false); deep = c.requires.deep; kind_at_is = (sym c.kind_at-kind.ensures, elim c.in-8-to-11-1.branch [ in-8-1 w ↦ inl (search rules) | in_default+else-kind-lt1+else-kind-lt7+then-kind-lt12 w ↦ range_case _ w.in_default-1.rest (search rules) (search rules) ]) }
+    record { step_is = (c.requires.step_is.0, c.if-s-ge-DEEPEST.false); deep = c.requires.deep; kind_at_is = (sym c.kind_at-kind.ensures, elim c.in-8-to-11-1.branch [ in-8-1 w ↦ inl (search rules) | in_default+else-kind-lt1+else-kind-lt7+then-kind-lt12 w ↦ range_case _ w.in_default-1.rest (search rules) (search rules) ]) }
 
 pub returns-in-1 : goal.returns-in-1
 returns-in-1 c =
-    turned_answers c.requires.mode_is.0 c.if-s-ge-DEEPEST.false c.back_with.ensures (λ kids. kind_iden _ _ _ _ kids (sym c.kind_at-kind.ensures ∙ c.in-1.is))
+    turned_answers c.requires.step_is.0 c.if-s-ge-DEEPEST.false c.back.ensures (λ kids. kind_iden _ _ _ _ kids (sym c.kind_at-kind.ensures ∙ c.in-1.is))
 
 pub returns-in-2 : goal.returns-in-2
 returns-in-2 c =
-    turned_answers c.requires.mode_is.0 c.if-s-ge-DEEPEST.false c.back_with-in-2.ensures (λ kids. kind_unit _ _ _ _ kids (sym c.kind_at-kind.ensures ∙ c.in-2.is))
+    turned_answers c.requires.step_is.0 c.if-s-ge-DEEPEST.false c.back-in-2.ensures (λ kids. kind_unit _ _ _ _ kids (sym c.kind_at-kind.ensures ∙ c.in-2.is))
 
 pub returns-in-3 : goal.returns-in-3
 returns-in-3 c =
-    turned_down c.requires.mode_is.0 c.if-s-ge-DEEPEST.false c.down.ensures (λ kids. kind_injl _ _ _ _ kids _ (sym c.kind_at-kind.ensures ∙ c.in-3.is) c.left_at.ensures)
+    turned_down c.requires.step_is.0 c.if-s-ge-DEEPEST.false c.down.ensures (λ kids. kind_injl _ _ _ _ kids _ (sym c.kind_at-kind.ensures ∙ c.in-3.is) c.left_at.ensures)
 
 pub returns-in-4 : goal.returns-in-4
 returns-in-4 c =
-    turned_down c.requires.mode_is.0 c.if-s-ge-DEEPEST.false c.down-in-4.ensures (λ kids. kind_injr _ _ _ _ kids _ (sym c.kind_at-kind.ensures ∙ c.in-4.is) c.left_at-in-4.ensures)
+    turned_down c.requires.step_is.0 c.if-s-ge-DEEPEST.false c.down-in-4.ensures (λ kids. kind_injr _ _ _ _ kids _ (sym c.kind_at-kind.ensures ∙ c.in-4.is) c.left_at-in-4.ensures)
 
 pub returns-in-7 : goal.returns-in-7
 returns-in-7 c =
-    turned_down c.requires.mode_is.0 c.if-s-ge-DEEPEST.false c.down-in-7.ensures (λ kids. kind_comp _ _ _ _ kids _ (sym c.kind_at-kind.ensures ∙ c.in-7.is) c.left_at-in-7.ensures)
+    turned_down c.requires.step_is.0 c.if-s-ge-DEEPEST.false c.down-in-7.ensures (λ kids. kind_comp _ _ _ _ kids _ (sym c.kind_at-kind.ensures ∙ c.in-7.is) c.left_at-in-7.ensures)
 
 pub returns-in-9 : goal.returns-in-9
 returns-in-9 c =
-    turned_down c.requires.mode_is.0 c.if-s-ge-DEEPEST.false c.down-in-9.ensures (λ kids. kind_pair _ _ _ _ kids _ (sym c.kind_at-kind.ensures ∙ c.in-9.is) c.left_at-in-9.ensures)
+    turned_down c.requires.step_is.0 c.if-s-ge-DEEPEST.false c.down-in-9.ensures (λ kids. kind_pair _ _ _ _ kids _ (sym c.kind_at-kind.ensures ∙ c.in-9.is) c.left_at-in-9.ensures)
 
 pub returns-in-12 : goal.returns-in-12
 returns-in-12 c =
-    turned_answers c.requires.mode_is.0 c.if-s-ge-DEEPEST.false c.end_with-in-12.ensures (λ kids. kind_fail _ _ _ _ kids (sym c.kind_at-kind.ensures ∙ c.in-12.is))
+    turned_answers c.requires.step_is.0 c.if-s-ge-DEEPEST.false c.halt-in-12.ensures (λ kids. kind_fail _ _ _ _ kids (sym c.kind_at-kind.ensures ∙ c.in-12.is))
 
 pub returns-in-13 : goal.returns-in-13
 returns-in-13 c =
-    turned_answers c.requires.mode_is.0 c.if-s-ge-DEEPEST.false c.enter_witness.ensures (λ kids. kind_witness _ _ _ _ kids (sym c.kind_at-kind.ensures ∙ c.in-13.is))
+    turned_answers c.requires.step_is.0 c.if-s-ge-DEEPEST.false c.enter_witness.ensures (λ kids. kind_witness _ _ _ _ kids (sym c.kind_at-kind.ensures ∙ c.in-13.is))
 
 pub returns-in-14 : goal.returns-in-14
 returns-in-14 c =
-    turned_answers c.requires.mode_is.0 c.if-s-ge-DEEPEST.false c.back_with-in-14.ensures (λ kids. kind_scribe _ _ _ _ kids _ (sym c.kind_at-kind.ensures ∙ c.in-14.is) (c.entry.ensures ∙ c.requires.sound.placed.each _ ∙ ap (cell_of _) c.left_at-in-14.ensures))
+    turned_answers c.requires.step_is.0 c.if-s-ge-DEEPEST.false c.back-in-14.ensures (λ kids. kind_scribe _ _ _ _ kids _ (sym c.kind_at-kind.ensures ∙ c.in-14.is) (c.entry.ensures ∙ c.requires.sound.placed.each _ ∙ ap (cell_of _) c.left_at-in-14.ensures))
 
 pub returns-in-15 : goal.returns-in-15
 returns-in-15 c =
-    turned_handed c.requires.mode_is.0 c.if-s-ge-DEEPEST.false c.enter_jet.ensures (λ kids. kind_jet _ _ _ _ kids _ (sym c.kind_at-kind.ensures ∙ c.in-15.is) c.left_at-in-15.ensures)
+    turned_handed c.requires.step_is.0 c.if-s-ge-DEEPEST.false c.enter_jet.ensures (λ kids. kind_jet _ _ _ _ kids _ (sym c.kind_at-kind.ensures ∙ c.in-15.is) c.left_at-in-15.ensures)
 
 pub returns-in-5-to-6 : goal.returns-in-5-to-6
 returns-in-5-to-6 c = c.enter_part.ensures _ _
 
 pub returns-in_default : goal.returns-in_default
 returns-in_default c =
-    turned_answers c.requires.mode_is.0 c.if-s-ge-DEEPEST.false c.end_with-in_default.ensures (λ kids. kind_none _ _ _ _ kids _ (sym c.kind_at-kind.ensures) (range_none _ c.in_default-1.rest (elim c.in_default.branch [ in_default-via-then-kind-lt1 w ↦ inl (search rules) | in_default-via-else-kind-lt1+else-kind-lt7+else-kind-lt12 w ↦ inr (search rules) ])))
+    turned_answers c.requires.step_is.0 c.if-s-ge-DEEPEST.false c.halt-in_default.ensures (λ kids. kind_none _ _ _ _ kids _ (sym c.kind_at-kind.ensures) (range_none _ c.in_default-1.rest (elim c.in_default.branch [ in_default-via-then-kind-lt1 w ↦ inl (search rules) | in_default-via-else-kind-lt1+else-kind-lt7+else-kind-lt12 w ↦ inr (search rules) ])))
 
 pub returns-in-8-to-11 : goal.returns-in-8-to-11
 returns-in-8-to-11 c = c.enter_case.ensures _ _

@@ -12,4 +12,4 @@ returns-then-p c =
 
 pub returns : goal.returns
 returns c =
-    table_ran (given c.args.book.now c.args.witnesses.now c.args.nodes.now) c.args.count c.requires.cells_is c.seed_cells-p.ensures c.if-p.false c.run_machine-s.ensures (c.run_machine-s.auto.cells ∙ c.seed_cells-p.auto.cells) c.answer_of.ensures
+    table_ran (given c.args.book.now c.args.witnesses.now c.args.nodes.now) c.args.count c.requires.cells_is c.seed_cells-p.ensures c.if-p.false c.run_machine-end.ensures (c.run_machine-end.auto.cells ∙ c.seed_cells-p.auto.cells) c.answer_of.ensures

@@ -1,19 +1,16 @@
 -- `initial::seed_cells` meets its contract: cell 0 and the cells of the first r records are stored.
 -- Assumes nothing.
-use borrow.Author.Rules.{rules}
 use native.Mathlib.Omega.{arith}
-use mathlib.Core.Path.{refl}
 use Rattle.book.specs.Text.{text}
 use Rattle.run.proofs.Seeds.{start_unit, start_one, start_all}
 use Rattle.run.proofs.initial.seed_cells.Goals as goal
 
 pub loop-r-init : goal.loop-r-init
-loop-r-init c = (search rules, refl, λ s h. h)
+loop-r-init c = λ s h. h
 
 pub loop-r-preserved : goal.loop-r-preserved
-loop-r-preserved c = (search rules, search rules, λ s h. start_one (text _ _ _) _ (c.loop-r.invariant.2 s h) c.seed_one-p.ensures)
+loop-r-preserved c = λ s h. start_one (text _ _ _) _ (c.loop-r.invariant s h) c.seed_one-p.ensures
 
 pub returns : goal.returns
 returns c =
-    start_all (text _ _ _) (omega (arith, c.loop-r.invariant.0, c.loop-r-test.false))
-    (c.loop-r.invariant.2 _ (start_unit (text _ _ _) c.from.ensures c.keep-p.ensures))
+    start_all (text _ _ _) (omega arith) (c.loop-r.invariant _ (start_unit (text _ _ _) c.from.ensures c.keep-p.ensures))

@@ -1,16 +1,11 @@
 -- `initial::seed_cells` meets its contract: cell 0 and the cells of the first r records are stored.
 -- Assumes nothing.
-use Prim.Native.Nat.{ℕ, ◌-◌, ◌≤◌}
+use Prim.Native.Nat.{ℕ}
 use mathlib.Core.List.{List}
-use mathlib.Core.Path.{◌≡◌}
-use lib.ListN.{length}
 use Rattle.book.specs.Text.{text}
 use Rattle.run.specs.Calls.{Started}
 use Rattle.run.proofs.initial.seed_cells.Given as goal
 
 abbrev pub invariant-loop-r : goal.invariant-loop-r
 invariant-loop-r l =
-    (l.r ≤ l.book.records) × (length l.cells ≡ length l.initial.cells) × ((s : List ℕ) → Started l.book 0 s l.initial.p l.initial.cells → Started l.book l.r s l.p l.cells)
-
-abbrev pub decreases-loop-r : goal.decreases-loop-r
-decreases-loop-r l = l.book.records - l.r
+    (s : List ℕ) → Started l.book 0 s l.initial.p l.initial.cells → Started l.book l.r s l.p l.cells

@@ -11,6 +11,6 @@ seed_value-requires c = record { sound = c.requires.sound; holds_is = sym c.is_o
 pub returns-then-is_of : goal.returns-then-is_of
 returns-then-is_of c = one_value (text _ _ _) _ c.requires.r_in_range (sym c.is_of.ensures ∙ c.if-is_of.true) c.seed_value.ensures
 
-pub returns : goal.returns
-returns c =
+pub returns-else-is_of : goal.returns-else-is_of
+returns-else-is_of c =
     one_other c.args.book.now c.args.r c.requires.r_in_range (sym c.is_of.ensures ∙ c.if-is_of.false)

@@ -1,7 +1,0 @@
--- `back_with` meets its contract.
--- Assumes nothing.
-use Rattle.machine.proofs.Turns.{answers_back}
-use Rattle.machine.proofs.back_with.Goals as goal
-
-pub returns : goal.returns
-returns c = answers_back _ _ _
