@@ -18,7 +18,7 @@ use Rattle.book.specs.Valid.{Valid}
 use Rattle.book.proofs.Standing.{stands_few, function_mark}
 use Rattle.pattern.proofs.Memos.{zero_at, zero_size}
 use Rattle.pattern.proofs.Records.{but_row}
-use Rattle.shapes.specs.Views.{NONE}
+use Rattle.std.specs.Prelude.{Some, None}
 use Rattle.binders.specs.Binders.{names, twice}
 use Rattle.binders.specs.Memos.{Met, Nameless, Bears, pattern_twice, params_twice, Doubled, Repeats}
 use Rattle.binders.proofs.Names.{names_none}
@@ -66,23 +66,23 @@ module _ {b i : List ℕ} {p : ℕ} (s : Stands b i p PATTERN) where
   repeats_row e w v = record { pattern = λ z. e; function = λ z. absurd (omega (arith, s.is)); row = w; nameless = v }
 
   -- it has no names, or those of one part
-  module _ {q : ℕ} (d : Bears b i p q) {ns ms : List ℕ} (w : Met p ns) (v : Nameless b i ms) where
-    pub repeats_none : q ≡ NONE → Repeats b i p false ns (set ms p 1)
+  module _ {ns ms : List ℕ} (w : Met p ns) (v : Nameless b i ms) where
+    pub repeats_none : Bears b i p None → Repeats b i p false ns (set ms p 1)
     unfolding twice
-    repeats_none e = repeats_row (rw (bears_none d e)) (met_next w refl) (nameless_more v p (bears_none d e))
+    repeats_none d = repeats_row (rw (bears_none d)) (met_next w refl) (nameless_more v p (bears_none d))
 
-    module _ {ds : List ℕ} (o : Doubled b i p ds) (e : q ≡ NONE → ⊥) where
-      pub part_fits : q < length ds
-      part_fits = omega (arith, stands_few (bears_some d e).0, o.size)
+    pub repeats_part : {q : ℕ} {ds : List ℕ} → Bears b i p (Some q) → Doubled b i p ds → (q ≡ p → ⊥) → Repeats b i p (eqb (get_or ds q 0) 1) ns ms
+    repeats_part {q} d o f =
+        let part = bears_some d in
+        repeats_row (rw (o.patterns q (omega (arith, part.1)) part.0.is, part.2) (go (pattern_twice b i p))) (met_next w refl) v
+      where
+        go : (t : Bool) → eqb (pick t 1 0) 1 ≡ t
+        go true = refl
+        go false = refl
 
-      pub repeats_part : (q ≡ p → ⊥) → Repeats b i p (eqb (get_or ds q 0) 1) ns ms
-      repeats_part f =
-          let part = bears_some d e in
-          repeats_row (rw (o.patterns q (omega (arith, part.1)) part.0.is, part.2) (go (pattern_twice b i p))) (met_next w refl) v
-        where
-          go : (t : Bool) → eqb (pick t 1 0) 1 ≡ t
-          go true = refl
-          go false = refl
+-- a part's record has its entry
+pub part_fits : {b i ds : List ℕ} {p q : ℕ} → Bears b i p (Some q) → Doubled b i p ds → q < length ds
+part_fits d o = omega (arith, stands_few (bears_some d).0, o.size)
 
 -- a row tells of the records of kind kd before k whether g holds, and t is whether it holds of record k
 module _ (b i : List ℕ) {k u : ℕ} (z : u ≡ k + 1) (ds : List ℕ) (kd : ℕ) (g : ℕ → Bool) {t : Bool} (is : kind b i k ≡ kd → t ≡ g k) (done : (r : ℕ) → r < k → kind b i r ≡ kd → get_or ds r 0 ≡ pick (g r) 1 0) where

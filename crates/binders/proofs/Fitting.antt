@@ -22,7 +22,8 @@ use Rattle.pattern.proofs.Passes.{row_at, size_row}
 use Rattle.pattern.proofs.Records.{but_row, row_most}
 use Rattle.shapes.specs.Shapes.{products, place_of}
 use Rattle.binders.specs.Binders.{fits, fits_from}
-use Rattle.shapes.specs.Views.{NONE, Gives}
+use Rattle.shapes.specs.Views.{Gives}
+use Rattle.std.specs.Prelude.{Some, None}
 use Rattle.binders.specs.Memos.{marked, Known, Marks, Fitted}
 use Rattle.shapes.proofs.Same.{gives_none, gives_some}
 use Rattle.binders.proofs.Bits.{marked_none}
@@ -101,19 +102,19 @@ module _ {b i memo₀ memo : List ℕ} {v : Bool} {n : ℕ} {a : ℕ → Pat} {t
   pub fitting_all : n ≤ k → Fitted b i v true memo
   fitting_all o = record { known = w.known; is = sym (w.rest ∙ fits_none n a t k o) }
 
-  module _ (o : k < n) {s : ℕ} (g : Gives b i (place_of products n k t) s) where
+  module _ (o : k < n) where
     -- the type has no place for the next; it does not fit there; it fits
-    pub fitting_nowhere : s ≡ NONE → Fitted b i v false memo
-    fitting_nowhere e = record { known = w.known; is = sym (w.rest ∙ fits_next n a t k o ∙ rw (gives_none g e)) }
+    pub fitting_nowhere : Gives b i (place_of products n k t) None → Fitted b i v false memo
+    fitting_nowhere g = record { known = w.known; is = sym (w.rest ∙ fits_next n a t k o ∙ rw (gives_none g)) }
 
-    module _ (there : s ≡ NONE → ⊥) {memo' : List ℕ} {f : Bool} (d : Fitted b i (fits (a (1 + k)) (type_of b i s)) f memo') where
+    module _ {s : ℕ} (g : Gives b i (place_of products n k t) (Some s)) {memo' : List ℕ} {f : Bool} (d : Fitted b i (fits (a (1 + k)) (type_of b i s)) f memo') where
       pub fitting_not : f ≡ false → Fitted b i v false memo'
-      fitting_not e = record { known = d.known; is = sym (w.rest ∙ fits_next n a t k o ∙ rw (gives_some g there, ← d.is, e)) }
+      fitting_not e = record { known = d.known; is = sym (w.rest ∙ fits_next n a t k o ∙ rw (gives_some g, ← d.is, e)) }
 
       pub fitting_next : {u : ℕ} → f ≡ true → u ≡ k + 1 → length memo' ≡ length memo → Fitting b i v n a t u memo₀ memo'
       fitting_next {u} e z l = record {
         kept = l ∙ w.kept;
         few = w.few;
         known = d.known;
-        rest = let y : suc k ≡ u = omega arith in w.rest ∙ fits_next n a t k o ∙ rw (gives_some g there, ← d.is, e, y);
+        rest = let y : suc k ≡ u = omega arith in w.rest ∙ fits_next n a t k o ∙ rw (gives_some g, ← d.is, e, y);
       }

@@ -2,26 +2,27 @@
 -- Assumes nothing.
 use Prim.Native.Nat.{ℕ, zero, suc, ◌+◌, ◌*◌, ◌-◌, ◌≤◌, ◌<◌}
 use mathlib.Core.List.{List, []}
-use mathlib.Core.Logic.{⊎_elim}
+use mathlib.Core.Bool.{true, false}
 use mathlib.Core.Option.{none, some}
-use mathlib.Core.Path.{◌≡◌, refl, ap, ◌∙◌}
+use mathlib.Core.Path.{◌≡◌, refl, sym, ap, ◌∙◌}
 use native.Mathlib.Omega.{arith}
-use borrow.Author.Tests.{eq-eqb, ne_eqb}
 use lib.ListN.{length, get_or}
 use Rattle.simplicity.specs.Types.{Ty, one}
 use Rattle.book.specs.Format.{TYPE, FUNCTION, FN}
 use Rattle.book.specs.Index.{field, Lies}
 use Rattle.book.specs.Stands.{Stands}
 use Rattle.book.specs.Tree.{Pat, name, Fun, fun, Tree, as_type, as_fun, group, params_at, type_of, pattern_of, fun_of, tree}
-use Rattle.book.proofs.Standing.{stands_few, stands_tree, each_lies, each_stands, function_mark}
+use Rattle.book.proofs.Standing.{stands_tree, each_lies, each_stands, function_mark}
 use Rattle.pattern.specs.Find.{find, params_pattern, params_of}
 use Rattle.pattern.proofs.Passes.{name_is, name_not}
 use Rattle.pattern.proofs.Records.{finds_params}
 use Rattle.shapes.specs.Shapes.{products, leads, place_of, row_type, param_types}
-use Rattle.shapes.specs.Views.{NONE, Gives, nowhere, record_of}
+use Rattle.shapes.specs.Views.{Gives, nowhere, record_of}
+use Rattle.std.specs.Prelude.{Option as Answer, Some, None, is_some}
+use Rattle.laws.specs.Table.{true_false}
 use Rattle.shapes.proofs.Places.{places_row}
 use Rattle.binders.specs.Binders.{type_for, seek, scope_in}
-use Rattle.binders.specs.Memos.{Seen, absent, present, scope_of, base_of, Live, Newest, found, passed}
+use Rattle.binders.specs.Memos.{Seen, absent, present, scope_of, base_of, Newest, found, passed}
 use Rattle.binders.proofs.Sights.{Skips, seen_none, skips_all, skips_next, skips_found}
 
 -- parameters have as many types, each what its second field names
@@ -39,9 +40,9 @@ types_at_lem x a h (suc m) (suc k) o =
     rw z (types_at_lem x a (h + 2) m k (omega arith))
 
 -- what a search in the one binding of a scope found
-seen_gives : {b i : List ℕ} {x : ℕ} {p : Pat} {t : Ty} {s : ℕ} → Seen b i x p t s → Gives b i (seek (find x p) t none) s
+seen_gives : {b i : List ℕ} {x : ℕ} {p : Pat} {t : Ty} {s : Answer ℕ} → Seen b i x p t s → Gives b i (seek (find x p) t none) s
 unfolding seek
-seen_gives (absent z e) = nowhere z (rw e)
+seen_gives (absent e) = nowhere (rw e)
 seen_gives (present ks h e l) = record_of h (rw e l)
 
 -- a function's scope
@@ -74,8 +75,8 @@ module _ {b i : List ℕ} {f : ℕ} (s : Stands b i f FUNCTION) where
 
   module _ {x n k : ℕ} (w : Skips x (params_pattern (params_of (fun_of b i f))) 2 (λ j. name (field b i f j)) 2 n k) where
     -- none has the name
-    pub params_all : n ≤ k → Gives b i (type_for x (scope_in (fun_of b i f))) NONE
-    params_all o = rw (in_scope x (fun_of b i f)) (seen_gives (absent refl (skips_all w o)))
+    pub params_all : n ≤ k → Gives b i (type_for x (scope_in (fun_of b i f))) None
+    params_all o = rw (in_scope x (fun_of b i f)) (seen_gives (absent (skips_all w o)))
 
     module _ (j y : ℕ) (z : n ≡ field b i f 1) (o : k < n) (e : j ≡ 2 + 2 * k) (g : y ≡ field b i f j) where
       -- the next has another name
@@ -83,26 +84,26 @@ module _ {b i : List ℕ} {f : ℕ} (s : Stands b i f FUNCTION) where
       params_next u q h = skips_next w j o (omega arith) u q (name_not x _ y g h)
 
       -- the next has the name
-      pub params_found : (l u : ℕ) → y ≡ x → l ≡ 3 + 2 * k → u ≡ field b i f l → Gives b i (type_for x (scope_in (fun_of b i f))) u
+      pub params_found : (l u : ℕ) → y ≡ x → l ≡ 3 + 2 * k → u ≡ field b i f l → Gives b i (type_for x (scope_in (fun_of b i f))) (Some u)
       unfolding leads
       params_found l u h v q =
           let stands : Stands b i u TYPE = rw q (type_stands n k l z o v) in
-          rw (in_scope x (fun_of b i f)) (seen_gives (skips_found w j o (omega arith) (rw q (type_place n k l z o v)) (present [] stands (name_is x _ y g h) refl) (λ r. omega (arith, stands_few stands))))
+          rw (in_scope x (fun_of b i f)) (seen_gives (skips_found w j o (omega arith) (rw q (type_place n k l z o v)) (present [] stands (name_is x _ y g h) refl) refl))
 
 -- a search for x in n live bindings: those from `at` on have not the name
-pub record Older (b i bs : List ℕ) (n base x at : ℕ) : Type 0 where
+pub record Older (b i bs : List ℕ) (n : ℕ) (base : Answer ℕ) (x at : ℕ) : Type 0 where
   pub low : at ≤ n
   pub rest : type_for x (scope_of b i bs n base) ≡ type_for x (scope_of b i bs at base)
 
 -- no binding was searched yet
-pub older_none : (b i bs : List ℕ) (n base x : ℕ) → Older b i bs n base x n
+pub older_none : (b i bs : List ℕ) (n : ℕ) (base : Answer ℕ) (x : ℕ) → Older b i bs n base x n
 older_none b i bs n base x = record { low = omega arith; rest = refl }
 
-module _ {b i bs : List ℕ} {n base x at : ℕ} (w : Older b i bs n base x at) where
+module _ {b i bs : List ℕ} {n : ℕ} {base : Answer ℕ} {x at : ℕ} (w : Older b i bs n base x at) where
   -- all have not the name
-  pub older_all : at ≤ 0 → Newest b i bs n base x NONE
+  pub older_all : at ≤ 0 → Newest b i bs n base x None
   unfolding scope_of
-  older_all o = let z : at ≡ 0 = omega arith in passed refl (w.rest ∙ rw z)
+  older_all o = let z : at ≡ 0 = omega arith in passed (w.rest ∙ rw z)
 
   -- the next binding
   module _ (u : ℕ) (o : 0 < at) (e : u ≡ at - 1) where
@@ -110,32 +111,28 @@ module _ {b i bs : List ℕ} {n base x at : ℕ} (w : Older b i bs n base x at) 
     unfolding scope_of type_for
     older_here = let z : at ≡ suc u = omega arith in w.rest ∙ ap (λ k. type_for x (scope_of b i bs k base)) z
 
-    pub older_next : {s : ℕ} → Seen b i x (pattern_of b i (get_or bs (2 * u) 0)) (type_of b i (get_or bs (2 * u + 1) 0)) s → s ≡ NONE → Older b i bs n base x u
+    pub older_next : {s : Answer ℕ} → Seen b i x (pattern_of b i (get_or bs (2 * u) 0)) (type_of b i (get_or bs (2 * u + 1) 0)) s → is_some s ≡ false → Older b i bs n base x u
     unfolding seek
     older_next h z = record { low = omega (arith, w.low); rest = older_here ∙ rw (seen_none h z) }
 
-    pub older_found : {s : ℕ} → Seen b i x (pattern_of b i (get_or bs (2 * u) 0)) (type_of b i (get_or bs (2 * u + 1) 0)) s → (s ≡ NONE → ⊥) → Newest b i bs n base x s
+    pub older_found : {s : Answer ℕ} → Seen b i x (pattern_of b i (get_or bs (2 * u) 0)) (type_of b i (get_or bs (2 * u + 1) 0)) s → is_some s ≡ true → Newest b i bs n base x s
     unfolding seek
-    older_found (absent z f) there = absurd (there z)
+    older_found (absent f) there = absurd (true_false (sym there))
     older_found (present ks h f l) there = found h (older_here ∙ rw f l)
 
--- what the live bindings have of a name, and then the base
-module _ {b i bs : List ℕ} {n base x s : ℕ} where
-  pub newest_found : Newest b i bs n base x s → (s ≡ NONE → ⊥) → Gives b i (type_for x (scope_of b i bs n base)) s
+-- what the live bindings have of a name, and then the base: none, or a function
+module _ {b i bs : List ℕ} {n x : ℕ} {base : Answer ℕ} where
+  pub newest_found : {s : Answer ℕ} → Newest b i bs n base x s → is_some s ≡ true → Gives b i (type_for x (scope_of b i bs n base)) s
   newest_found (found h e) there = record_of h e
-  newest_found (passed z e) there = absurd (there z)
+  newest_found (passed e) there = absurd (true_false (sym there))
 
-  newest_passed : Newest b i bs n base x s → s ≡ NONE → type_for x (scope_of b i bs n base) ≡ type_for x (base_of b i base)
-  newest_passed (found h e) z = absurd (omega (arith, stands_few h))
-  newest_passed (passed o e) z = e
+  newest_passed : {s : Answer ℕ} → Newest b i bs n base x s → is_some s ≡ false → type_for x (scope_of b i bs n base) ≡ type_for x (base_of b i base)
+  newest_passed (found h e) z = absurd (true_false z)
+  newest_passed (passed e) z = e
 
-  pub newest_root : Newest b i bs n base x s → s ≡ NONE → base ≡ NONE → Gives b i (type_for x (scope_of b i bs n base)) NONE
+  pub newest_root : {s : Answer ℕ} → Newest b i bs n base x s → is_some s ≡ false → base ≡ None → Gives b i (type_for x (scope_of b i bs n base)) None
   unfolding type_for find seek
-  newest_root h z o = nowhere refl (newest_passed h z ∙ rw (eq-eqb base NONE o))
+  newest_root h z o = nowhere (newest_passed h z ∙ rw o)
 
-  pub newest_params : {r : ℕ} → Newest b i bs n base x s → s ≡ NONE → (base ≡ NONE → ⊥) → Gives b i (type_for x (scope_in (fun_of b i base))) r → Gives b i (type_for x (scope_of b i bs n base)) r
-  newest_params h z o g = rw (newest_passed h z, ne_eqb base NONE o) g
-
--- the base, where there is one, is a function
-pub live_function : {b i bs : List ℕ} {n base : ℕ} → Live b i bs n base → (base ≡ NONE → ⊥) → Stands b i base FUNCTION
-live_function l o = ⊎_elim (λ e. absurd (o e)) (λ s. s) l.based
+  pub newest_params : {f : ℕ} {s r : Answer ℕ} → Newest b i bs n base x s → is_some s ≡ false → base ≡ Some f → Gives b i (type_for x (scope_in (fun_of b i f))) r → Gives b i (type_for x (scope_of b i bs n base)) r
+  newest_params h z o g = rw (newest_passed h z, o) g

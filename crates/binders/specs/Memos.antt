@@ -1,6 +1,6 @@
 -- What the code holds of patterns beside types: the pairs that are known to fit, the names that were met, the row of live bindings.
 -- Assumes nothing.
-use Rattle.std.specs.Prelude.{ℕ, zero, suc, ◌+◌, ◌*◌, ◌/◌, ◌%◌, ◌^◌, ◌≤◌, ◌<◌, Bool, true, List, [], ◌∷◌, ◌⊎◌, ◌≡◌, eqb, leb, length, get_or}
+use Rattle.std.specs.Prelude.{ℕ, zero, suc, ◌+◌, ◌*◌, ◌/◌, ◌%◌, ◌^◌, ◌≤◌, ◌<◌, Bool, true, List, [], ◌∷◌, ◌⊎◌, ◌≡◌, eqb, leb, length, get_or, Option, Some, None}
 use Rattle.std.proofs.Math.Option.{some, none}
 use Rattle.laws.specs.Table.{pick}
 use Rattle.array.specs.Path.{Side}
@@ -12,7 +12,6 @@ use Rattle.book.specs.Tree.{Pat, type_of, pattern_of, fun_of}
 use Rattle.pattern.specs.Find.{find, params_of}
 use Rattle.pattern.specs.Seeks.{Memo}
 use Rattle.shapes.specs.Shapes.{products, leads}
-use Rattle.shapes.specs.Views.{NONE}
 use Rattle.binders.specs.Binders.{fits, names, param_names, twice, Binding, binding, root_scope, scope_in, type_for}
 use Rattle.binders.specs.declared.Noted.{Noted}
 use Rattle.binders.specs.declared.Noted.TheVariants as notes
@@ -47,12 +46,12 @@ pub record Fitted (b i : List ℕ) (v f : Bool) (memo' : List ℕ) : Type 0 wher
   pub is : f ≡ v
 
 -- where x stands in a pattern that fits a type: nowhere, or at a place whose type is record s
-pub data Seen (b i : List ℕ) (x : ℕ) (p : Pat) (t : Ty) (s : ℕ) : Type 0 where
-  absent : s ≡ NONE → find x p ≡ none → Seen b i x p t s
-  present : (ks : List Side) → Stands b i s TYPE → find x p ≡ some ks → leads products ks t ≡ some (type_of b i s) → Seen b i x p t s
+pub data Seen (b i : List ℕ) (x : ℕ) (p : Pat) (t : Ty) : Option ℕ → Type 0 where
+  absent : find x p ≡ none → Seen b i x p t None
+  present : {s : ℕ} (ks : List Side) → Stands b i s TYPE → find x p ≡ some ks → leads products ks t ≡ some (type_of b i s) → Seen b i x p t (Some s)
 
 -- and the row of what was sought in vain that the search left
-pub record Sights (b i : List ℕ) (x : ℕ) (p : Pat) (t : Ty) (s : ℕ) (ms : List ℕ) : Type 0 where
+pub record Sights (b i : List ℕ) (x : ℕ) (p : Pat) (t : Ty) (s : Option ℕ) (ms : List ℕ) : Type 0 where
   pub memo : Memo b i x ms
   pub seen : Seen b i x p t s
 
@@ -91,9 +90,9 @@ pub record Tallies (b i : List ℕ) (stamp : ℕ) (xs ns : List ℕ) (s : Noted)
   pub notes : Notes stamp xs ns s ns'
 
 -- the record s has the names of the row p: it is the row, or its one part with names; or there are none
-pub data Bears (b i : List ℕ) (p s : ℕ) : Type 0 where
-  nobody : s ≡ NONE → names (pattern_of b i p) ≡ [] → Bears b i p s
-  somebody : Stands b i s PATTERN → s ≤ p → names (pattern_of b i s) ≡ names (pattern_of b i p) → Bears b i p s
+pub data Bears (b i : List ℕ) (p : ℕ) : Option ℕ → Type 0 where
+  nobody : names (pattern_of b i p) ≡ [] → Bears b i p None
+  somebody : {s : ℕ} → Stands b i s PATTERN → s ≤ p → names (pattern_of b i s) ≡ names (pattern_of b i p) → Bears b i p (Some s)
 
 -- whether a name stands twice: in a pattern, among a function's parameters
 abbrev pub pattern_twice : List ℕ → List ℕ → ℕ → Bool
@@ -116,12 +115,13 @@ pub record Repeats (b i : List ℕ) (r : ℕ) (f : Bool) (ns' ms' : List ℕ) : 
   pub row : Met (r + 1) ns'
   pub nameless : Nameless b i ms'
 
--- the root binding of a scope whose base is x: a function's parameters, or the input
-abbrev pub base_of : List ℕ → List ℕ → ℕ → List Binding
-base_of b i x = pick (eqb x NONE) root_scope (scope_in (fun_of b i x))
+-- the root binding of a scope: a function's parameters, or the input
+abbrev pub base_of : List ℕ → List ℕ → Option ℕ → List Binding
+base_of b i None = root_scope
+base_of b i (Some f) = scope_in (fun_of b i f)
 
 -- the scope of n live bindings: entry k is its pattern's record and then its type's
-unfoldable pub scope_of : List ℕ → List ℕ → List ℕ → ℕ → ℕ → List Binding
+unfoldable pub scope_of : List ℕ → List ℕ → List ℕ → ℕ → Option ℕ → List Binding
 scope_of b i bs zero base = base_of b i base
 scope_of b i bs (suc n) base = binding (pattern_of b i (get_or bs (2 * n) 0)) (type_of b i (get_or bs (2 * n + 1) 0)) ∷ scope_of b i bs n base
 
@@ -132,12 +132,12 @@ pub record Binds (b i : List ℕ) (p t : ℕ) : Type 0 where
   pub fit : fits (pattern_of b i p) (type_of b i t) ≡ true
 
 -- a row of n live bindings
-pub record Live (b i bs : List ℕ) (n base : ℕ) : Type 0 where
+pub record Live (b i bs : List ℕ) (n : ℕ) (base : Option ℕ) : Type 0 where
   pub room : 2 * n ≤ length bs
   pub each : (j : ℕ) → j < n → Binds b i (get_or bs (2 * j) 0) (get_or bs (2 * j + 1) 0)
-  pub based : (base ≡ NONE) ⊎ Stands b i base FUNCTION
+  pub based : (f : ℕ) → base ≡ Some f → Stands b i f FUNCTION
 
 -- what the live bindings have of the name x: record s's type, or nothing, so that it is for the base to say
-pub data Newest (b i bs : List ℕ) (n base x s : ℕ) : Type 0 where
-  found : Stands b i s TYPE → type_for x (scope_of b i bs n base) ≡ some (type_of b i s) → Newest b i bs n base x s
-  passed : s ≡ NONE → type_for x (scope_of b i bs n base) ≡ type_for x (base_of b i base) → Newest b i bs n base x s
+pub data Newest (b i bs : List ℕ) (n : ℕ) (base : Option ℕ) (x : ℕ) : Option ℕ → Type 0 where
+  found : {s : ℕ} → Stands b i s TYPE → type_for x (scope_of b i bs n base) ≡ some (type_of b i s) → Newest b i bs n base x (Some s)
+  passed : type_for x (scope_of b i bs n base) ≡ type_for x (base_of b i base) → Newest b i bs n base x None

@@ -18,16 +18,13 @@ ghost use Rattle.binders.specs.Memos.{width_of, word_of, marked, Known, Marks, F
 use book::format::{FN, PI, PN, PT, TP};
 use book::record::Book;
 use named::table::clear;
-use shapes::part::{NONE, is_unit, place};
+use shapes::part::{is_unit, place};
 
 // How many words of the memo a pattern has: a bit for each type that there may be, in a small book or in a large one.
 fn width_of(length: usize) -> usize
     ensures { result ≡ width_of length }
 {
-    if length <= 8192 {
-        return 16;
-    }
-    128
+    if length <= 8192 { 16 } else { 128 }
 }
 
 // The word of a pair, in a memo of so many words: its end where the pattern has no bit for the type.
@@ -99,17 +96,14 @@ fn fits_row(book: &Book, p: u16, t: u16, memo: &mut [u32]) -> bool
     if n == 0 {
         return is_unit(book, t);
     }
-    let mut k: u32 = 0;
-    while k < n {
+    for k in 0..n {
         let part = book.field_at(p, 1 + (k as usize));
-        let s = place(book, TP, t, n, k);
-        if s == NONE {
+        let Some(s) = place(book, TP, t, n, k) else {
             return false;
-        }
+        };
         if !fits(book, part, s, memo) {
             return false;
         }
-        k += 1;
     }
     true
 }
@@ -163,19 +157,13 @@ fn note_row(book: &Book, p: u16, met: &mut [u16], stamp: u16, nameless: &mut [u8
 {
     let n = book.field_at(p, 0) as usize;
     let mut any = false;
-    let mut k: usize = 0;
-    while k < n {
+    for k in 0..n {
         let part = book.field_at(p, 1 + k);
         match note_all(book, part, met, stamp, nameless) {
-            Noted::Twice => {
-                return Noted::Twice;
-            }
-            Noted::Named => {
-                any = true;
-            }
+            Noted::Twice => return Noted::Twice,
+            Noted::Named => any = true,
             Noted::Unnamed => {}
         }
-        k += 1;
     }
     if any {
         return Noted::Named;
@@ -185,24 +173,22 @@ fn note_row(book: &Book, p: u16, met: &mut [u16], stamp: u16, nameless: &mut [u8
 }
 
 // The record that has all names of a row: none, the one part of it that bears names, or the row itself.
-fn bearer(book: &Book, p: u16, nameless: &[u8]) -> u16
+fn bearer(book: &Book, p: u16, nameless: &[u8]) -> Option<u16>
     requires stands { Stands book.now.bytes book.now.index p PATTERN }
     requires mark_is { mark book.now.bytes book.now.index p ≡ PT }
     requires nameless { Nameless book.now.bytes book.now.index nameless.now }
     ensures { Bears book.now.bytes book.now.index p result }
 {
     let n = book.field_at(p, 0) as usize;
-    let mut only = NONE;
-    let mut k: usize = 0;
-    while k < n {
+    let mut only = None;
+    for k in 0..n {
         let part = book.field_at(p, 1 + k);
         if nameless[part as usize] != 1 {
-            if only != NONE {
-                return p;
+            if only.is_some() {
+                return Some(p);
             }
-            only = part;
+            only = Some(part);
         }
-        k += 1;
     }
     only
 }
@@ -217,11 +203,10 @@ fn repeats(book: &Book, p: u16, met: &mut [u16], nameless: &mut [u8], doubled: &
     requires doubled { Doubled book.now.bytes book.now.index p doubled.now }
     ensures { Repeats book.now.bytes book.now.index p result met.new nameless.new }
 {
-    let s = bearer(book, p, nameless);
-    if s == NONE {
+    let Some(s) = bearer(book, p, nameless) else {
         nameless[p as usize] = 1;
         return false;
-    }
+    };
     if s != p {
         return doubled[s as usize] == 1;
     }
@@ -239,17 +224,13 @@ fn params_repeat(book: &Book, f: u16, met: &mut [u16]) -> bool
     ensures { (result ≡ params_twice book.now.bytes book.now.index f) × Met (f + 1) met.new }
 {
     let n = book.field_at(f, 1) as usize;
-    let mut k: usize = 0;
-    while k < n {
+    for k in 0..n {
         let name = book.field_at(f, 2 + 2 * k);
         match note(name, met, f + 1) {
-            Noted::Twice => {
-                return true;
-            }
+            Noted::Twice => return true,
             Noted::Named => {}
             Noted::Unnamed => {}
         }
-        k += 1;
     }
     false
 }
@@ -284,35 +265,31 @@ pub fn doubles(book: &Book, n: u16, doubled: &mut [u8])
 {
     let mut met = [0u16; 65536];
     let mut nameless = [0u8; 4096];
-    let mut r: u16 = 0;
-    while r < n {
+    for r in 0..n {
         if doubled_at(book, r, &mut met, &mut nameless, doubled) {
             doubled[r as usize] = 1;
         }
-        r += 1;
     }
 }
 
 // The type of a name in a pattern that fits a type, at its first place from the left. `missing` has a 1 for each record in which this
 // name was already sought in vain.
 #[cycle(sighting)]
-fn type_in(book: &Book, p: u16, t: u16, name: u16, missing: &mut [u8]) -> u16
+fn type_in(book: &Book, p: u16, t: u16, name: u16, missing: &mut [u8]) -> Option<u16>
     requires { (Binds book.now.bytes book.now.index p t) × (Memo book.now.bytes book.now.index name missing.old) }
     ensures { Sights book.now.bytes book.now.index name (pattern_of book.now.bytes book.now.index p) (type_of book.now.bytes book.now.index t) result missing.new }
 {
     if missing[p as usize] == 1 {
-        return NONE;
+        return None;
     }
     let mark = book.mark_at(p);
     if mark == PT {
         return type_in_row(book, p, t, name, missing);
     }
-    if mark == PI {
-        if book.field_at(p, 0) == name {
-            return t;
-        }
+    if mark == PI && book.field_at(p, 0) == name {
+        return Some(t);
     }
-    NONE
+    None
 }
 
 // Whether a pattern may have a name: it is that name, or a row in which it was not sought in vain. Most elements of a wide row are
@@ -334,43 +311,38 @@ fn may_have(book: &Book, p: u16, name: u16, missing: &[u8]) -> bool
 
 // The same for a row: its elements one after another, each with the type at its place.
 #[cycle(sighting)]
-fn type_in_row(book: &Book, p: u16, t: u16, name: u16, missing: &mut [u8]) -> u16
+fn type_in_row(book: &Book, p: u16, t: u16, name: u16, missing: &mut [u8]) -> Option<u16>
     requires { (Binds book.now.bytes book.now.index p t) × ((mark book.now.bytes book.now.index p ≡ PT) × (Memo book.now.bytes book.now.index name missing.old)) }
     ensures { Sights book.now.bytes book.now.index name (pattern_of book.now.bytes book.now.index p) (type_of book.now.bytes book.now.index t) result missing.new }
 {
     let n = book.field_at(p, 0) as u32;
-    let mut k: u32 = 0;
-    while k < n {
+    for k in 0..n {
         let part = book.field_at(p, 1 + (k as usize));
-        if !may_have(book, part, name, missing) {
-            k += 1;
-            continue;
+        if may_have(book, part, name, missing) {
+            // A row that fits a type has a place there for each element.
+            let s = place(book, TP, t, n, k).unwrap();
+            let found = type_in(book, part, s, name, missing);
+            if found.is_some() {
+                return found;
+            }
         }
-        let s = place(book, TP, t, n, k);
-        let found = type_in(book, part, s, name, missing);
-        if found != NONE {
-            return found;
-        }
-        k += 1;
     }
     missing[p as usize] = 1;
-    NONE
+    None
 }
 
 // The type of a function's first parameter of a name.
-fn type_of_param(book: &Book, f: u16, name: u16) -> u16
+fn type_of_param(book: &Book, f: u16, name: u16) -> Option<u16>
     requires { Stands book.now.bytes book.now.index f FUNCTION }
     ensures { Gives book.now.bytes book.now.index (type_for name (scope_in (fun_of book.now.bytes book.now.index f))) result }
 {
     let n = book.field_at(f, 1) as usize;
-    let mut k: usize = 0;
-    while k < n {
+    for k in 0..n {
         if book.field_at(f, 2 + 2 * k) == name {
-            return book.field_at(f, 3 + 2 * k);
+            return Some(book.field_at(f, 3 + 2 * k));
         }
-        k += 1;
     }
-    NONE
+    None
 }
 
 // The type of a name in the row of live bindings, from the newest on. One row of what was sought in vain serves them all, since they
@@ -379,26 +351,24 @@ fn newest_type(
     book: &Book,
     bindings: &[u16],
     live: usize,
-    base: u16,
+    base: Option<u16>,
     name: u16,
     missing: &mut [u8],
-) -> u16
+) -> Option<u16>
     requires live { Live book.now.bytes book.now.index bindings.now live base }
     requires missing_length { length missing.old ≡ 4096 }
     ensures { (Newest book.now.bytes book.now.index bindings.now live base name result) × (length missing.new ≡ 4096) }
 {
     clear(missing);
-    let mut at = live;
-    while 0 < at {
-        at -= 1;
+    for at in (0..live).rev() {
         let p = bindings[2 * at];
         let t = bindings[2 * at + 1];
         let found = type_in(book, p, t, name, missing);
-        if found != NONE {
+        if found.is_some() {
             return found;
         }
     }
-    NONE
+    None
 }
 
 // The type of a name in scope: of its newest binding, or in the base.
@@ -406,20 +376,18 @@ pub fn type_for(
     book: &Book,
     bindings: &[u16],
     live: usize,
-    base: u16,
+    base: Option<u16>,
     name: u16,
     missing: &mut [u8],
-) -> u16
+) -> Option<u16>
     requires live { Live book.now.bytes book.now.index bindings.now live base }
     requires missing_length { length missing.old ≡ 4096 }
     ensures { (Gives book.now.bytes book.now.index (type_for name (scope_of book.now.bytes book.now.index bindings.now live base)) result) × (length missing.new ≡ 4096) }
 {
     let found = newest_type(book, bindings, live, base, name, missing);
-    if found != NONE {
+    if found.is_some() {
         return found;
     }
-    if base == NONE {
-        return NONE;
-    }
-    type_of_param(book, base, name)
+    let f = base?;
+    type_of_param(book, f, name)
 }

@@ -1,7 +1,7 @@
 -- What each construct asks of its declared type, by the fields of its record: the tests in the order in which the code makes them.
 -- Assumes nothing.
 use Prim.Native.Nat.{ℕ, zero, suc, ◌+◌, ◌*◌, ◌≤◌, ◌<◌}
-use mathlib.Core.Bool.{true, false}
+use mathlib.Core.Bool.{Bool, false}
 use mathlib.Core.List.{List, [], ◌∷◌}
 use mathlib.Core.Option.{Option, some, none}
 use mathlib.Core.Path.{◌≡◌, refl, sym, ap, ◌∙◌}
@@ -12,7 +12,6 @@ use lib.ListN.{get_or}
 use Rattle.laws.specs.Table.{both, among, both_left, both_right, ◌also◌, every}
 use Rattle.array.specs.Split.{top_of}
 use Rattle.simplicity.specs.Types.{Ty, one, two, same}
-use Rattle.simplicity.proofs.Safe.{same_is, is_same}
 use Rattle.book.specs.Format.{word_at, in_range, TS, TYPE, EXPRESSION, STATEMENT, EC, ET, EL, E0, EN, EB, SA, SE, EM, EH, CL, CD, CA, CN, CK}
 use Rattle.book.specs.Index.{mark, field, Lies}
 use Rattle.book.specs.Stands.{Stands}
@@ -24,7 +23,9 @@ use Rattle.parts.specs.declared.view.Span.{Span}
 use Rattle.shapes.specs.Shapes.{type_is, end_type, row_type, list_type, sums, is_there, is_at, place_of, element_of, has_places, all_are, is_list_of, whole}
 use Rattle.shapes.specs.Views.{ListBound, Gives, side_is}
 use Rattle.shapes.specs.Wholes.{Elements, Declares, types_at}
-use Rattle.shapes.proofs.Same.{one_test, types_same, gives_at}
+use Rattle.std.specs.Prelude.{Option as Answer, Some}
+use Rattle.std.specs.Option.{option_eq}
+use Rattle.shapes.proofs.Same.{same_turned, types_same, gives_at}
 use Rattle.shapes.proofs.Declared.{expr_declares}
 use Rattle.shapes.proofs.Walks.{Tests}
 use Rattle.shapes.proofs.Rows.{types_at_lem, arms_at_lem}
@@ -56,36 +57,35 @@ abbrev pub Part : List ℕ → List ℕ → ℕ → ℕ → ℕ → Type 0
 Part b i r k p = Is b i p (type_is (expr_of b i (field b i r k)))
 
 -- a test of its number against a type's; against what may be none
-module _ {b i : List ℕ} {p a : ℕ} {u : Ty} where
-  pub is_test : Is b i p u → Stands b i a TYPE → eqb p a ≡ same u (type_of b i a)
+module _ {b i : List ℕ} {p : ℕ} {u : Ty} where
+  pub is_test : {a : ℕ} → Is b i p u → Stands b i a TYPE → eqb p a ≡ same u (type_of b i a)
   is_test e s = rw (← e.1) (types_same e.0 s)
 
-  pub test_is : Stands b i a TYPE → Is b i p u → eqb a p ≡ same (type_of b i a) u
+  pub test_is : {a : ℕ} → Stands b i a TYPE → Is b i p u → eqb a p ≡ same (type_of b i a) u
   test_is s e = rw (← e.1) (types_same s e.0)
 
-  pub given_is : {o : Option Ty} → Gives b i o a → Is b i p u → eqb a p ≡ is_at o u
+  pub given_is : {o : Option Ty} {x : Answer ℕ} → Gives b i o x → Is b i p u → option_eq eqb x (Some p) ≡ is_at o u
   given_is g e = rw (← e.1) (gives_at g e.0)
 
--- what may be no type: whether it is there, and is u
-pub there_none : {o : Option Ty} → o ≡ none → is_there o ≡ false
-unfolding is_there
-there_none e = rw e
+-- so a test of the code's tells of a part
+module _ {b i : List ℕ} {p : ℕ} {u : Ty} {t : Bool} (e : Is b i p u) where
+  pub is_tells : {a : ℕ} → Stands b i a TYPE → t ≡ eqb p a → t ≡ same u (type_of b i a)
+  is_tells s z = z ∙ is_test e s
 
-pub there_some : {o : Option Ty} {a : Ty} → o ≡ some a → is_there o ≡ true
-unfolding is_there
-there_some e = rw e
+  pub word_tells : (w : Ty) → t ≡ same (type_of b i p) w → t ≡ same u w
+  word_tells w z = z ∙ rw e.1
 
+  pub given_tells : {o : Option Ty} {x : Answer ℕ} → Gives b i o x → t ≡ option_eq eqb x (Some p) → t ≡ is_at o u
+  given_tells g z = z ∙ given_is g e
+
+-- what may be no type is u, or it is not
 pub at_none : {o : Option Ty} (u : Ty) → o ≡ none → is_at o u ≡ false
 unfolding is_at
 at_none u e = rw e
 
-pub at_some : {o : Option Ty} {a : Ty} (u : Ty) → o ≡ some a → is_at o u ≡ same a u
+pub at_some : {o : Option Ty} {a : Ty} (u : Ty) → o ≡ some a → same a u ≡ is_at o u
 unfolding is_at
 at_some u e = rw e
-
--- two types are the same either way round
-same_turned : (a c : Ty) → same a c ≡ same c a
-same_turned a c = one_test (same a c) (same c a) (λ e. is_same c a (sym (same_is a c e))) (λ e. is_same a c (sym (same_is c a e)))
 
 -- a constant
 pub constant_is : {b i : List ℕ} {r t p : ℕ} → Declares b i r EC t → Is b i p (declared_of b i (field b i r 1)) → Tests (whole (expr_of b i r)) (same (type_of b i p) (type_of b i t) ∷ [])

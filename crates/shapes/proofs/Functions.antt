@@ -5,16 +5,15 @@ use mathlib.Core.Bool.{false}
 use mathlib.Core.List.{List, [], ◌∷◌}
 use mathlib.Core.Path.{◌≡◌, refl, sym, ap, ◌∙◌}
 use native.Mathlib.Omega.{arith}
-use borrow.Author.Tests.{ne_eqb}
 use lib.Dec.{T, leb, leb→le}
 use lib.ListN.{length, replicate, length-replicate}
-use Rattle.laws.specs.Table.{both, among, both_left, both_right, ◌also◌, every}
+use Rattle.laws.specs.Table.{both, among, both_left, both_right, ◌also◌, every, true_false}
 use Rattle.array.specs.Split.{top_of, halvings}
 use Rattle.jet.specs.Jets.{jet_of}
 use Rattle.jet.specs.declared.Jet.{Jet}
 use Rattle.simplicity.specs.Types.{Ty, one, product, two, power, same}
-use Rattle.book.specs.Format.{in_range, within, powers, power_in, TS, TP, TYPE, EXPRESSION, FUNCTION, CJ, CF, CQ, CY, CW, CH, FN}
-use Rattle.book.specs.Index.{mark, field, Lies}
+use Rattle.book.specs.Format.{in_range, within, powers, power_in, TS, TYPE, EXPRESSION, FUNCTION, CJ, CF, CQ, CY, CW, CH, FN}
+use Rattle.book.specs.Index.{field, Lies}
 use Rattle.book.specs.Stands.{Stands}
 use Rattle.book.specs.Tree.{as_expr, as_fun, type_of, expr_of, fun_of, group}
 use Rattle.book.proofs.Standing.{stands_tree, head_lies, head_stands, each_lies, each_stands, each_ranged, function_mark}
@@ -24,7 +23,6 @@ use Rattle.parts.proofs.Marks.{most}
 use Rattle.shapes.specs.Shapes.{type_is, takes, gives, array_type, list_type, word_type, is_at, all_are, same_all, folds, loops, jet_takes, jet_gives, whole}
 use Rattle.shapes.specs.Views.{ListBound, side_is}
 use Rattle.shapes.specs.Wholes.{Elements, Declares, Folding, types_at, takes_at, words_at, accumulates, result_type}
-use Rattle.shapes.proofs.Sides.{same_not, same_product}
 use Rattle.shapes.proofs.Walks.{Tests}
 use Rattle.shapes.proofs.Rows.{types_at_lem, params_at_lem, words_at_lem, types_length, takes_length, same_length, same_replicate}
 use Rattle.shapes.proofs.Constructs.{Part, made, names, ranged, typed_lies, typed_stands}
@@ -281,16 +279,9 @@ pub result_bit : {bits : ℕ} (t : Ty) → bits ≡ 1 → same t two ≡ same t 
 unfolding result_type
 result_bit t e = rw e
 
-pub result_power : (bits : ℕ) → T (among (0 ∷ 1 ∷ 9 ∷ []) bits) → (bits ≡ 0 → ⊥) → (bits ≡ 1 → ⊥) → T (among powers (bits - 1))
-result_power bits t u v = every (0 ∷ 1 ∷ 9 ∷ []) (λ k. (k ≡ 0 → ⊥) → (k ≡ 1 → ⊥) → T (among powers (k - 1))) ((λ p q. absurd (p refl)) also (λ p q. absurd (q refl)) also (λ p q. tt) also tt) bits t u v
+pub result_power : (bits : ℕ) → T (among (0 ∷ 1 ∷ 9 ∷ []) bits) → among (0 ∷ 1 ∷ []) bits ≡ false → T (among powers (bits - 1))
+result_power = every (0 ∷ 1 ∷ 9 ∷ []) (λ k. among (0 ∷ 1 ∷ []) k ≡ false → T (among powers (k - 1))) ((λ p. absurd (true_false p)) also (λ p. absurd (true_false p)) also (λ p. tt) also tt)
 
-module _ {b i : List ℕ} {t bits m : ℕ} (s : Stands b i t TYPE) (u : bits ≡ 0 → ⊥) (v : bits ≡ 1 → ⊥) (e : m ≡ mark b i t) where
-  result_product : result_type bits ≡ product two (word_type (bits - 1))
-  unfolding result_type
-  result_product = rw (ne_eqb bits 0 u, ne_eqb bits 1 v)
-
-  pub result_not : (m ≡ TP → ⊥) → false ≡ same (type_of b i t) (result_type bits)
-  result_not h = rw result_product (sym (same_not s e (product two (word_type (bits - 1))) refl h))
-
-  pub result_is : {x y : ℕ} → m ≡ TP → x ≡ field b i t 0 → y ≡ field b i t 1 → Tests (same (type_of b i t) (result_type bits)) (same (type_of b i x) two ∷ same (type_of b i y) (word_type (bits - 1)) ∷ [])
-  result_is q o w = record { is = rw result_product (same_product s e o w two (word_type (bits - 1)) q) }
+pub result_rest : (t : Ty) (bits : ℕ) → T (among (0 ∷ 1 ∷ 9 ∷ []) bits) → among (0 ∷ 1 ∷ []) bits ≡ false → same t (product two (word_type (bits - 1))) ≡ same t (result_type bits)
+unfolding result_type
+result_rest t = every (0 ∷ 1 ∷ 9 ∷ []) (λ k. among (0 ∷ 1 ∷ []) k ≡ false → same t (product two (word_type (k - 1))) ≡ same t (result_type k)) ((λ p. absurd (true_false p)) also (λ p. absurd (true_false p)) also (λ p. refl) also tt)

@@ -8,15 +8,16 @@ use mathlib.Core.Path.{◌≡◌, refl, sym, ap, subst, ◌∙◌}
 use native.Mathlib.Omega.{arith}
 use Rattle.laws.specs.Table.{both}
 use Rattle.array.specs.Split.{halvings, top_of}
-use Rattle.array.specs.Path.{on_right}
 use Rattle.simplicity.specs.Types.{Ty, power, fewer, same}
 use Rattle.book.specs.Format.{TYPE, TS, TP}
 use Rattle.book.specs.Index.{mark, field}
 use Rattle.book.specs.Stands.{Stands}
 use Rattle.book.specs.Tree.{type_of}
 use Rattle.shapes.specs.Shapes.{onward, element_of, list_type}
-use Rattle.shapes.specs.Views.{NONE, Gives, nowhere, ListBound, side_is, block_type}
-use Rattle.shapes.proofs.Sides.{first_fails, first_holds, side_at, side_is_lem, side_not, same_not, same_product}
+use Rattle.shapes.specs.Views.{Gives, nowhere, ListBound, side_is, block_type}
+use Rattle.std.specs.Prelude.{Option as Answer, Some, None}
+use Rattle.shapes.proofs.Same.{gives_none, gives_some, gives_stands}
+use Rattle.shapes.proofs.Sides.{first_fails, first_holds, side_at, same_not, same_product}
 use Rattle.shapes.proofs.Powers.{half_power, half_top, bound_power, bound_more, Down, down_is, down_next, down_end}
 
 -- what a type is the lists of; whether it is the lists of a
@@ -38,18 +39,18 @@ module _ {b i : List ℕ} {t : ℕ} (s : Stands b i t TYPE) (n : ℕ) (h : ListB
 
 -- the blocks before record t are passed
 module _ {b i : List ℕ} {o : Option Ty} {t n : ℕ} (g : Down b i last_of o t n) where
-  pub element_end : {y : ℕ} → n ≤ 1 → Gives b i (side_is TS 1 (type_of b i t)) y → Gives b i o y
+  pub element_end : {y : Answer ℕ} → n ≤ 1 → Gives b i (side_is TS 1 (type_of b i t)) y → Gives b i o y
   unfolding element_of
   element_end {y} h r = subst (λ w. Gives b i w y) (sym (down_end g h)) r
 
-  module _ (h : 1 < n) {x : ℕ} (e : x ≡ mark b i t) where
-    pub element_none : (x ≡ TP → ⊥) → Gives b i o NONE
+  module _ (h : 1 < n) where
+    pub element_none : Gives b i (side_is TP 1 (type_of b i t)) None → Gives b i o None
     unfolding element_of onward
-    element_none f = nowhere refl (down_is g h ∙ rw (side_not g.stands e {m = TP} tt f on_right))
+    element_none r = nowhere (down_is g h ∙ rw (gives_none r))
 
-    pub element_next : {y : ℕ} → x ≡ TP → y ≡ field b i t 1 → Down b i last_of o y (n / 2)
+    pub element_next : {y : ℕ} → Gives b i (side_is TP 1 (type_of b i t)) (Some y) → Down b i last_of o y (n / 2)
     unfolding element_of onward
-    element_next q r = down_next g h (side_at g.stands e {m = TP} tt q {k = 1} (omega arith) r) (rw (side_is_lem g.stands e {m = TP} tt q 1 (omega arith), r))
+    element_next r = down_next g h (gives_stands r) (rw (gives_some r))
 
 -- the blocks before record t are a list's
 module _ {b i : List ℕ} (a : Ty) {o : Bool} {t n : ℕ} (g : Down b i (is_lists a) o t n) where

@@ -1,15 +1,14 @@
 -- A type is the type of a row exactly where each of its places is.
 -- Assumes nothing.
-use Prim.Native.Nat.{ℕ, zero, suc, ◌+◌, ◌-◌, ◌≤◌, ◌<◌}
-use mathlib.Core.Bool.{Bool, true, false}
+use Prim.Native.Nat.{ℕ, ◌+◌, ◌-◌, ◌≤◌, ◌<◌}
+use mathlib.Core.Bool.{Bool, true}
 use mathlib.Core.List.{List, [], ◌∷◌}
-use mathlib.Core.Option.{some, none}
-use mathlib.Core.Path.{◌≡◌, refl, sym, ap₂, ◌∙◌}
+use mathlib.Core.Option.{Option, some, none}
+use mathlib.Core.Path.{◌≡◌, refl, sym, ap, ap₂, ◌∙◌}
 use native.Mathlib.Omega.{arith}
 use lib.ListN.{length, get_or, replicate, length-replicate, get_or-replicate}
 use lib.Seq.{get_or-take, get_or-drop}
-use Rattle.laws.specs.Order.{by_lt}
-use Rattle.laws.specs.Table.{both, below, true_false}
+use Rattle.laws.specs.Table.{true_false}
 use Rattle.array.specs.Split.{split_of}
 use Rattle.array.specs.Path.{on_left, on_right, path}
 use Rattle.array.proofs.Splits.{split_some, split_less}
@@ -18,6 +17,8 @@ use Rattle.array.proofs.Paths.{path_one, path_left, path_right, path_leads}
 use Rattle.simplicity.specs.Types.{Ty, one, sum, product, same}
 use Rattle.simplicity.proofs.Safe.{same_is, is_same}
 use Rattle.shapes.specs.Shapes.{row_type, array_type, products, side_of, onward, leads, place_of, is_at}
+use Rattle.shapes.proofs.Same.{one_test}
+use Rattle.shapes.proofs.Walks.{walk, each_walk, walk_each}
 
 -- there is none, or there is one
 none_some : {A : Type 0} {a : A} → none ≡ some a → ⊥
@@ -72,49 +73,31 @@ whole_more ts two l r (product a b) o h =
 pub row_places : (ts : List Ty) (t : Ty) → 1 ≤ length ts → Right ts t → t ≡ row_type ts
 row_places = rows_all Whole (λ t o h. absurd (omega arith)) whole_one whole_more
 
--- the places before k of n are what f says
-pub record Agrees (n : ℕ) (f : ℕ → Ty) (t : Ty) (k : ℕ) : Type 0 where
-  pub each : (j : ℕ) → j < k → place_of products n j t ≡ some (f j)
+-- there is u exactly where the test says so
+at_is : (o : Option Ty) (u : Ty) → is_at o u ≡ true → o ≡ some u
+unfolding is_at
+at_is (some a) u e = ap some (same_is a u e)
+at_is none u e = absurd (true_false (sym e))
 
-pub agrees_none : {n : ℕ} {f : ℕ → Ty} {t : Ty} → Agrees n f t 0
-agrees_none = record { each = λ j h. absurd (omega arith) }
+is_at_lem : (o : Option Ty) (u : Ty) → o ≡ some u → is_at o u ≡ true
+unfolding is_at
+is_at_lem o u e = rw e (is_same u u refl)
 
-pub agrees_next : {n : ℕ} {f : ℕ → Ty} {t : Ty} {k : ℕ} → Agrees n f t k → place_of products n k t ≡ some (f k) → Agrees n f t (k + 1)
-agrees_next {k = k} g e = record { each = λ j o. by_lt j k (g.each j) (λ l. let q : j ≡ k = omega arith in rw q e) }
+-- what a place must be
+abbrev pub place_is : ℕ → Ty → (ℕ → Ty) → ℕ → Bool
+place_is n t f k = is_at (place_of products n k t) (f k)
 
--- f says what a row has: where all places are so, the type is the row's, and where one is another, it is not
-module _ (ts : List Ty) {f : ℕ → Ty} {n : ℕ} (z : length ts ≡ n) (s : (j : ℕ) → j < n → get_or ts j one ≡ f j) (t : Ty) where
-  agrees_all : {k : ℕ} → Agrees n f t k → 1 ≤ n → n ≤ k → same t (row_type ts) ≡ true
-  agrees_all g h l = is_same t (row_type ts) (row_places ts t (omega arith) (λ j o. let q : j < n = omega arith in rw (z, s j q) (g.each j (omega arith))))
-
-  agrees_not : (k : ℕ) → k < n → is_at (place_of products n k t) (f k) ≡ false → same t (row_type ts) ≡ false
-  unfolding is_at
-  agrees_not k o h = go (same t (row_type ts)) refl
-    where
-      go : (r : Bool) → same t (row_type ts) ≡ r → r ≡ false
-      go false e = refl
-      go true e =
-          let l : k < length ts = omega arith in
-          let g : place_of products n k t ≡ some (f k) = rw (same_is t (row_type ts) e, ← s k o, ← z) (places_row ts k l) in
-          let w : same (f k) (f k) ≡ false = rw g at h in
-          absurd (true_false (sym (is_same (f k) (f k) refl) ∙ w))
+-- f says what a row has: a type is the row's exactly where each place is what f says
+pub places_walk : (ts : List Ty) (f : ℕ → Ty) (n : ℕ) → length ts ≡ n → ((j : ℕ) → j < n → get_or ts j one ≡ f j) → (t : Ty) → 0 < n → walk (place_is n t f) 0 n ≡ same t (row_type ts)
+places_walk ts f n l s t h = one_test _ _
+    (λ e. is_same t (row_type ts) (row_places ts t (rw l h) (λ j o.
+    let q : j < n = rw l at o in
+    rw (l, s j q) (at_is _ (f j) (walk_each (place_is n t f) n e j q)))))
+    (λ e. each_walk (place_is n t f) 0 n (λ j o u.
+    let q : j < n = omega arith in
+    let p : place_of products (length ts) j t ≡ some (get_or ts j one) = rw (same_is t (row_type ts) e) (places_row ts j (rw l q)) in
+    is_at_lem _ (f j) (rw (l, s j q) at p)))
 
 -- so for n of one type
-module _ (a : Ty) {n : ℕ} where
-  pub array_all : {t : Ty} {k : ℕ} → Agrees n (λ j. a) t k → 1 ≤ n → n ≤ k → true ≡ same t (array_type a n)
-  array_all {t} g h l = sym (agrees_all (replicate n a) (length-replicate n a) (λ j o. get_or-replicate n j a one o) t g h l)
-
-  pub array_not : (t : Ty) (k : ℕ) → k < n → is_at (place_of products n k t) a ≡ false → false ≡ same t (array_type a n)
-  array_not t k o h = sym (agrees_not (replicate n a) {f = λ j. a} (length-replicate n a) (λ j l. get_or-replicate n j a one l) t k o h)
-
--- the test f passes at each number below k, and at k; it fails at one
-pub below_next : (f : ℕ → Bool) (k : ℕ) → below f k ≡ true → f k ≡ true → below f (k + 1) ≡ true
-below_next f k h e = let q : k + 1 ≡ suc k = omega arith in rw (q, e) h
-
-pub below_not : (f : ℕ → Bool) (n k : ℕ) → k < n → f k ≡ false → below f n ≡ false
-below_not f zero k o e = absurd (omega arith)
-below_not f (suc n) k o e = by_lt k n (λ l. both_false (f n) (below f n) (below_not f n k l e)) (λ l. let q : k ≡ n = omega arith in rw (← q, e))
-  where
-    both_false : (a b : Bool) → b ≡ false → both a b ≡ false
-    both_false true b h = h
-    both_false false b h = refl
+pub array_walk : (a t : Ty) (n : ℕ) → 1 ≤ n → walk (place_is n t (λ j. a)) 0 n ≡ same t (array_type a n)
+array_walk a t n h = places_walk (replicate n a) (λ j. a) n (length-replicate n a) (λ j o. get_or-replicate n j a one o) t h

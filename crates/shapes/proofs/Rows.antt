@@ -3,26 +3,23 @@
 use Prim.Native.Nat.{ℕ, zero, suc, ◌+◌, ◌*◌, ◌≤◌, ◌<◌}
 use mathlib.Core.Bool.{Bool, true, false}
 use mathlib.Core.List.{List, [], ◌∷◌}
-use mathlib.Core.Option.{Option, some, none}
-use mathlib.Core.Path.{◌≡◌, refl, sym, ap, ap₂, ◌∙◌}
+use mathlib.Core.Path.{◌≡◌, refl, ap, ap₂, ◌∙◌}
 use native.Mathlib.Nat.{le_trans, mul-le-mul, mul-suc}
 use native.Mathlib.Omega.{arith}
 use lib.Dec.{T}
 use lib.ListN.{length, get_or, replicate}
-use Rattle.laws.specs.Table.{both, among, true_false}
+use Rattle.laws.specs.Table.{both, among}
 use Rattle.simplicity.specs.Types.{Ty, one, product, same}
-use Rattle.simplicity.proofs.Safe.{same_is, is_same}
 use Rattle.array.proofs.Rows.{row_none}
 use Rattle.book.specs.Index.{field}
 use Rattle.book.specs.Tree.{Tree, group, tree, type_of, expr_of, exprs_at, arms_at, parts_at, params_at}
 use Rattle.parts.specs.Parts.{Marked, Spanned, row_marks}
 use Rattle.parts.specs.declared.view.Span.{Span}
 use Rattle.parts.proofs.Spans.{span_lies, span_stands}
-use Rattle.shapes.specs.Shapes.{type_is, types, arm_types, param_types, are_words, all_are, same_all, row_type, word_type, products, place_of, is_at}
+use Rattle.shapes.specs.Shapes.{type_is, types, arm_types, param_types, are_words, all_are, same_all, row_type, word_type}
 use Rattle.shapes.specs.Wholes.{Elements, types_at, takes_at, words_at}
-use Rattle.shapes.proofs.Same.{one_test}
-use Rattle.shapes.proofs.Places.{row_places, places_row}
-use Rattle.shapes.proofs.Walks.{walk, walk_is, each_walk, walk_each}
+use Rattle.shapes.proofs.Places.{place_is, places_walk}
+use Rattle.shapes.proofs.Walks.{walk, walk_is}
 
 module _ {b i : List ℕ} {r : ℕ} where
   -- the fields of a row are near
@@ -35,16 +32,6 @@ module _ {b i : List ℕ} {r : ℕ} where
   -- the span of a record is a row
   pub span_row : {m : ℕ} {p : Span} → Marked b i r m → T (among row_marks m) → Spanned b i r m p → Elements b i r p.stride p.from p.count
   span_row g t s = record { few = s.few; low = s.low; near = s.near; each = λ j h. (span_lies g t s.is j h, span_stands g t s.is j h) }
-
--- there is u exactly where the test says so
-at_is : (o : Option Ty) (u : Ty) → is_at o u ≡ true → o ≡ some u
-unfolding is_at
-at_is (some a) u e = ap some (same_is a u e)
-at_is none u e = absurd (true_false (sym e))
-
-is_at_lem : (o : Option Ty) (u : Ty) → o ≡ some u → is_at o u ≡ true
-unfolding is_at
-is_at_lem o u e = rw e (is_same u u refl)
 
 module _ (b i : List ℕ) (r : ℕ) where
   -- what its fields name
@@ -125,21 +112,8 @@ module _ (b i : List ℕ) (r : ℕ) where
       types_get n s (k + s) j (omega arith) ∙ rw z
 
   -- a type is the row's exactly where each place is its element's
-  abbrev pub place_is : Ty → ℕ → ℕ → ℕ → ℕ → Bool
-  place_is t s k n j = is_at (place_of products n j t) (part_at s k j)
-
-  pub row_walk : (t : Ty) (s k n : ℕ) → 0 < n → walk (place_is t s k n) 0 n ≡ same t (row_type (types_at b i r s k n))
-  row_walk t s k n h =
-      let ts = types_at b i r s k n in
-      let l : length ts ≡ n = types_length n s k in
-      one_test _ _
-      (λ e. is_same t (row_type ts) (row_places ts t (rw l h) (λ j o.
-      let q : j < n = rw l at o in
-      rw (l, types_get n s k j q) (at_is _ (part_at s k j) (walk_each (place_is t s k n) n e j q)))))
-      (λ e. each_walk (place_is t s k n) 0 n (λ j o u.
-      let q : j < n = omega arith in
-      let p : place_of products (length ts) j t ≡ some (get_or ts j one) = rw (same_is t (row_type ts) e) (places_row ts j (rw l q)) in
-      is_at_lem _ (part_at s k j) (rw (l, types_get n s k j q) at p)))
+  pub row_walk : (t : Ty) (s k n : ℕ) → 0 < n → walk (place_is n t (part_at s k)) 0 n ≡ same t (row_type (types_at b i r s k n))
+  row_walk t s k n h = places_walk (types_at b i r s k n) (part_at s k) n (types_length n s k) (λ j o. types_get n s k j o) t h
 
 -- rows of unlike lengths are not the same; one that is of a type throughout
 pub same_length : (ts us : List Ty) → (length ts ≡ length us → ⊥) → same_all ts us ≡ false

@@ -1,12 +1,12 @@
 -- Types by their records: two are the same exactly where their records are, and what is learnt of a record that may be none.
 -- Assumes nothing.
 use Prim.Native.Nat.{ℕ}
-use mathlib.Core.Bool.{Bool, true, false, not}
+use mathlib.Core.Bool.{Bool, true, false}
 use mathlib.Core.List.{List}
 use mathlib.Core.Option.{Option, some, none}
 use mathlib.Core.Path.{◌≡◌, refl, sym, ap, ◌∙◌}
 use native.Mathlib.Omega.{arith}
-use borrow.Author.Tests.{eqb-true, eq-eqb, ne_eqb, not-true, not-false}
+use borrow.Author.Tests.{eqb-true, eq-eqb}
 use lib.Dec.{eqb}
 use Rattle.laws.specs.Order.{by_lt}
 use Rattle.simplicity.specs.Types.{Ty, same}
@@ -14,16 +14,21 @@ use Rattle.simplicity.proofs.Safe.{same_is, is_same}
 use Rattle.book.specs.Format.{TYPE}
 use Rattle.book.specs.Stands.{Stands}
 use Rattle.book.specs.Tree.{type_of}
-use Rattle.book.proofs.Standing.{stands_few}
 use Rattle.book.proofs.Types.{types_equal}
 use Rattle.shapes.specs.Shapes.{is_there, is_at}
-use Rattle.shapes.specs.Views.{NONE, Gives, nowhere, record_of}
+use Rattle.shapes.specs.Views.{Gives, nowhere, record_of}
+use Rattle.std.specs.Prelude.{Option as Answer, Some, None, is_some}
+use Rattle.std.specs.Option.{option_eq}
 
 -- two tests are one where each follows from the other
 pub one_test : (a b : Bool) → (a ≡ true → b ≡ true) → (b ≡ true → a ≡ true) → a ≡ b
 one_test true b f g = sym (f refl)
 one_test false true f g = g refl
 one_test false false f g = refl
+
+-- two types are the same either way round
+pub same_turned : (a c : Ty) → same a c ≡ same c a
+same_turned a c = one_test (same a c) (same c a) (λ e. is_same c a (sym (same_is a c e))) (λ e. is_same a c (sym (same_is c a e)))
 
 module _ {b i : List ℕ} where
   -- types with equal trees are one record
@@ -38,45 +43,30 @@ module _ {b i : List ℕ} where
       (λ e. is_same (type_of b i t) (type_of b i u) (ap (type_of b i) (eqb-true t u e)))
       (λ e. eq-eqb t u (one_type s r (same_is (type_of b i t) (type_of b i u) e)))
 
-  -- no type's number is that of no record
-  stands_some : {t : ℕ} → Stands b i t TYPE → t ≡ NONE → ⊥
-  stands_some s e = omega (arith, stands_few s)
-
-  -- a record that may be none: against a type's number; against that of no record
-  pub gives_at : {o : Option Ty} {x u : ℕ} → Gives b i o x → Stands b i u TYPE → eqb x u ≡ is_at o (type_of b i u)
+  -- an answer that may be no type: against a type's record, and whether there is one
+  pub gives_at : {o : Option Ty} {x : Answer ℕ} {u : ℕ} → Gives b i o x → Stands b i u TYPE → option_eq eqb x (Some u) ≡ is_at o (type_of b i u)
   unfolding is_at
-  gives_at {x = x} {u = u} (nowhere e n) r = rw n (ne_eqb x u (λ z. omega (arith, stands_few r)))
+  gives_at (nowhere e) r = rw e
   gives_at (record_of s e) r = rw e (types_same s r)
 
-  gives_there : {o : Option Ty} {x : ℕ} → Gives b i o x → eqb x NONE ≡ not (is_there o)
+  pub gives_there : {o : Option Ty} {x : Answer ℕ} → Gives b i o x → is_some x ≡ is_there o
   unfolding is_there
-  gives_there {x = x} (nowhere e n) = rw n (eq-eqb x NONE e)
-  gives_there {x = x} (record_of s e) = rw e (ne_eqb x NONE (stands_some s))
+  gives_there (nowhere e) = rw e
+  gives_there (record_of s e) = rw e
 
-  -- so there is none, or there is one
-  pub there_not : {o : Option Ty} {x : ℕ} → Gives b i o x → x ≡ NONE → is_there o ≡ false
-  there_not {o} {x} g z = not-true (is_there o) (sym (gives_there g) ∙ eq-eqb x NONE z)
+  -- there is none; there is one, which stands
+  pub gives_none : {o : Option Ty} → Gives b i o None → o ≡ none
+  gives_none (nowhere e) = e
 
-  pub there_is : {o : Option Ty} {x : ℕ} → Gives b i o x → (x ≡ NONE → ⊥) → is_there o ≡ true
-  there_is {o} {x} g z = not-false (is_there o) (sym (gives_there g) ∙ ne_eqb x NONE z)
+  pub gives_some : {o : Option Ty} {t : ℕ} → Gives b i o (Some t) → o ≡ some (type_of b i t)
+  gives_some (record_of s e) = e
 
-  -- what it is where there is none; where there is one
-  pub gives_none : {o : Option Ty} {x : ℕ} → Gives b i o x → x ≡ NONE → o ≡ none
-  gives_none (nowhere e n) z = n
-  gives_none (record_of s e) z = absurd (stands_some s z)
+  pub gives_stands : {o : Option Ty} {t : ℕ} → Gives b i o (Some t) → Stands b i t TYPE
+  gives_stands (record_of s e) = s
 
-  pub gives_stands : {o : Option Ty} {x : ℕ} → Gives b i o x → (x ≡ NONE → ⊥) → Stands b i x TYPE
-  gives_stands (nowhere e n) z = absurd (z e)
-  gives_stands (record_of s e) z = s
+  -- so a test of the code's tells of the type
+  pub tells_at : {o : Option Ty} {x : Answer ℕ} {u : ℕ} {t : Bool} → Gives b i o x → Stands b i u TYPE → t ≡ option_eq eqb x (Some u) → t ≡ is_at o (type_of b i u)
+  tells_at g r e = e ∙ gives_at g r
 
-  pub gives_some : {o : Option Ty} {x : ℕ} → Gives b i o x → (x ≡ NONE → ⊥) → o ≡ some (type_of b i x)
-  gives_some (nowhere e n) z = absurd (z e)
-  gives_some (record_of s e) z = e
-
-  -- it is type u's record, or another
-  pub gives_is : {o : Option Ty} {x u : ℕ} → Gives b i o x → Stands b i u TYPE → x ≡ u → o ≡ some (type_of b i u)
-  gives_is (nowhere e n) r z = absurd (stands_some r (sym z ∙ e))
-  gives_is (record_of s e) r z = rw (← z) e
-
-  pub gives_other : {o : Option Ty} {x u : ℕ} → Gives b i o x → Stands b i u TYPE → (x ≡ u → ⊥) → is_at o (type_of b i u) ≡ false
-  gives_other {x = x} {u = u} g r z = sym (gives_at g r) ∙ ne_eqb x u z
+  pub tells_there : {o : Option Ty} {x : Answer ℕ} {t : Bool} → Gives b i o x → t ≡ is_some x → t ≡ is_there o
+  tells_there g e = e ∙ gives_there g

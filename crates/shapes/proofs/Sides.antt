@@ -17,7 +17,8 @@ use Rattle.book.specs.Stands.{Stands}
 use Rattle.book.specs.Tree.{type_of, as_type}
 use Rattle.book.proofs.Standing.{stands_mark, stands_tree, head_lies, head_stands}
 use Rattle.shapes.specs.Shapes.{sums, products, side_of}
-use Rattle.shapes.specs.Views.{NONE, Gives, nowhere, record_of, is_sort, sort_of, side_is}
+use Rattle.shapes.specs.Views.{Gives, nowhere, record_of, is_sort, sort_of, side_is}
+use Rattle.std.specs.Prelude.{Some, None}
 
 -- the mark of a type's record
 abbrev mark_by : Ty → ℕ
@@ -125,7 +126,7 @@ module _ {b i : List ℕ} {t : ℕ} (s : Stands b i t TYPE) where
       pub side_at : {k y : ℕ} → k < 2 → y ≡ field b i t k → Stands b i y TYPE
       side_at {k} h w = rw w (side_stands k h)
 
-      pub side_gives : {k y : ℕ} → k < 2 → y ≡ field b i t k → Gives b i (side_is m k (type_of b i t)) y
+      pub side_gives : {k y : ℕ} → k < 2 → y ≡ field b i t k → Gives b i (side_is m k (type_of b i t)) (Some y)
       side_gives {k} h w = rw w (record_of (side_stands k h) (side_is_lem k h))
 
     -- what is of another mark has no side
@@ -136,5 +137,5 @@ module _ {b i : List ℕ} {t : ℕ} (s : Stands b i t TYPE) where
           (λ f. no_product k (type_of b i t) (λ o. f (e ∙ mark_by_lem ∙ o)))
           z h
 
-      pub side_nowhere : (k : ℕ) → Gives b i (side_is m k (type_of b i t)) NONE
-      side_nowhere k = nowhere refl (side_not (pick (eqb k 0) on_left on_right))
+      pub side_nowhere : (k : ℕ) → Gives b i (side_is m k (type_of b i t)) None
+      side_nowhere k = nowhere (side_not (pick (eqb k 0) on_left on_right))

@@ -1,13 +1,16 @@
 -- Tests in their order: those that code makes one after the other, and one that a loop makes at each number of a range.
 -- Assumes nothing.
-use Prim.Native.Nat.{ℕ, zero, suc, ◌+◌, ◌-◌, ◌≤◌, ◌<◌}
-use mathlib.Core.Bool.{Bool, true, false}
+use Prim.Native.Nat.{ℕ, zero, suc, ◌+◌, ◌≤◌, ◌<◌}
+use mathlib.Core.Bool.{Bool, true, false, ◌&&◌}
 use mathlib.Core.List.{List, [], ◌∷◌}
 use mathlib.Core.Path.{◌≡◌, refl, sym, ap, ◌∙◌}
 use native.Mathlib.Omega.{arith}
 use borrow.Author.Tests.{eq-eqb, ne_eqb}
 use lib.Dec.{eqb}
-use Rattle.laws.specs.Table.{both, true_false}
+use Rattle.std.specs.List.{list_all, range_with_len}
+use Rattle.laws.specs.Order.{by_lt}
+use Rattle.laws.specs.Table.{both, below, true_false}
+use Rattle.shapes.proofs.Same.{one_test}
 
 -- the tests hold, each in its turn
 abbrev all : List Bool → Bool
@@ -27,6 +30,9 @@ first_fails (y ∷ ys) o = rw o
 module _ {w x : Bool} where
   pub fails : {xs : List Bool} → Tests w (x ∷ xs) → x ≡ false → false ≡ w
   fails {xs} c o = sym (c.is ∙ first_fails xs o)
+
+  pub stops : {a : Bool} {xs : List Bool} → Tests w (x ∷ xs) → a ≡ x → a ≡ false → a ≡ w
+  stops c e o = o ∙ fails c (sym e ∙ o)
 
   pub passes : {y : Bool} {ys : List Bool} → Tests w (x ∷ y ∷ ys) → x ≡ true → Tests w (y ∷ ys)
   passes c o = record { is = rw o at c.is }
@@ -83,26 +89,23 @@ module _ (f : ℕ → Bool) where
   pub walk_each : (m : ℕ) → walk f 0 m ≡ true → (j : ℕ) → j < m → f j ≡ true
   walk_each m e j h = let z : 0 + j ≡ j = omega arith in rw z at (from_each m 0 e j h)
 
--- a loop over the numbers below n has come to k, where the whole walk is w
-pub record Left (f : ℕ → Bool) (n : ℕ) (w : Bool) (k : ℕ) : Type 0 where
-  pub most : k ≤ n
-  pub is : walk f k (n - k) ≡ w
+-- so does a test of each number below n, the last first
+below_each : (f : ℕ → Bool) (n : ℕ) → below f n ≡ true → (j : ℕ) → j < n → f j ≡ true
+below_each f zero e j h = absurd (omega arith)
+below_each f (suc n) e j h = by_lt j n (below_each f n (both_second (f n) (below f n) e) j) (λ l. let z : j ≡ n = omega arith in rw z (both_first (f n) (below f n) e))
 
--- it begins
-pub left_start : {f : ℕ → Bool} {n : ℕ} {w : Bool} → walk f 0 n ≡ w → Left f n w 0
-left_start {n = n} e = let z : n - 0 ≡ n = omega arith in record { most = omega arith; is = rw z e }
+each_below : (f : ℕ → Bool) (n : ℕ) → ((j : ℕ) → j < n → f j ≡ true) → below f n ≡ true
+each_below f zero h = refl
+each_below f (suc n) h = rw (h n (omega arith)) (each_below f n (λ j o. h j (omega arith)))
 
-module _ {f : ℕ → Bool} {n k : ℕ} {w : Bool} (l : Left f n w k) where
-  -- what is left is the test at k, and then the others
-  left_next : k < n → Tests w (f k ∷ walk f (k + 1) (n - (k + 1)) ∷ [])
-  left_next h = let z : n - k ≡ suc (n - (k + 1)) = omega arith in record { is = sym l.is ∙ rw z }
+pub below_walk : (f : ℕ → Bool) (n : ℕ) → walk f 0 n ≡ below f n
+below_walk f n = one_test _ _ (λ e. each_below f n (walk_each f n e)) (λ e. each_walk f 0 n (λ j o l. below_each f n e j (omega arith)))
 
-  -- it goes on past a number that passes, stops at one that does not, and ends
-  pub left_on : k < n → f k ≡ true → Left f n w (k + 1)
-  left_on h e = record { most = omega arith; is = tells (passes (left_next h) e) refl }
-
-  pub left_stop : k < n → f k ≡ false → false ≡ w
-  left_stop h e = fails (left_next h) e
-
-  pub left_end : n ≤ k → true ≡ w
-  left_end h = let z : n - k ≡ 0 = omega arith in let e : walk f k 0 ≡ w = rw z at l.is in e
+-- a walk is what `all` finds of a range
+pub walk_all : (f : ℕ → Bool) (k m : ℕ) → list_all f (range_with_len k m) ≡ walk f k m
+walk_all f k zero = refl
+walk_all f k (suc m) = go (f k) (walk_all f (k + 1) m)
+  where
+    go : (t : Bool) {x y : Bool} → x ≡ y → (t && x) ≡ both t y
+    go true e = e
+    go false e = refl

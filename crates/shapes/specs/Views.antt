@@ -1,6 +1,6 @@
 -- What the parts of the comparison promise: a type's record, or none.
 -- Assumes nothing.
-use Rattle.std.specs.Prelude.{ℕ, zero, suc, Bool, true, false, List, [], ◌∷◌, ◌≡◌, T, eqb}
+use Rattle.std.specs.Prelude.{ℕ, zero, suc, Bool, true, false, List, [], ◌∷◌, ◌≡◌, T, eqb, Option as Answer, Some, None}
 use Rattle.std.proofs.Math.Option.{Option, some, none}
 use Rattle.laws.specs.Table.{pick, among}
 use Rattle.array.specs.Path.{on_left, on_right}
@@ -10,14 +10,10 @@ use Rattle.book.specs.Stands.{Stands}
 use Rattle.book.specs.Tree.{type_of}
 use Rattle.shapes.specs.Shapes.{Sort, sums, products, side_of, onward}
 
--- the number of no record
-abbrev pub NONE : ℕ
-NONE = 65535
-
--- record x's type is o, or there is none and x is no record
-pub data Gives (b i : List ℕ) (o : Option Ty) (x : ℕ) : Type 0 where
-  nowhere : x ≡ NONE → o ≡ none → Gives b i o x
-  record_of : Stands b i x TYPE → o ≡ some (type_of b i x) → Gives b i o x
+-- the code's answer says what o says: there is no type, or it is that of record t
+pub data Gives (b i : List ℕ) (o : Option Ty) : Answer ℕ → Type 0 where
+  nowhere : o ≡ none → Gives b i o None
+  record_of : {t : ℕ} → Stands b i t TYPE → o ≡ some (type_of b i t) → Gives b i o (Some t)
 
 -- what a mark's types are made of
 abbrev pub is_sort : ℕ → Bool

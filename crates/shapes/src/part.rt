@@ -7,14 +7,11 @@ ghost use Rattle.book.specs.Stands.{Stands};
 ghost use Rattle.book.specs.Tree.{type_of, expr_of};
 ghost use Rattle.laws.specs.Table.{among};
 ghost use Rattle.shapes.specs.Shapes.{type_is, place_of, array_type, list_type, word_type, element_of, has_places};
-ghost use Rattle.shapes.specs.Views.{NONE, Gives, sort_of, is_sort, side_is, ListBound, block_type, halved_of};
+ghost use Rattle.shapes.specs.Views.{Gives, sort_of, is_sort, side_is, ListBound, block_type, halved_of};
 
 use array::split;
 use book::format::{TP, TS, TU};
 use book::record::Book;
-
-// No type: the number of no record.
-pub const NONE: u16 = 65535;
 
 // The declared type of an expression.
 pub fn type_of(book: &Book, e: u16) -> u16
@@ -25,20 +22,20 @@ pub fn type_of(book: &Book, e: u16) -> u16
 }
 
 // A side of a sum (m is its mark) or of a product: its left for 0, its right for 1.
-pub fn side(book: &Book, m: u8, t: u16, k: usize) -> u16
+pub fn side(book: &Book, m: u8, t: u16, k: usize) -> Option<u16>
     requires stands { Stands book.now.bytes book.now.index t TYPE }
     requires sort { T (is_sort m) }
     requires k_in_range { k < 2 }
     ensures { Gives book.now.bytes book.now.index (side_is m k (type_of book.now.bytes book.now.index t)) result }
 {
     if book.mark_at(t) != m {
-        return NONE;
+        return None;
     }
-    book.field_at(t, k)
+    Some(book.field_at(t, k))
 }
 
 // Place k of n in a balanced tree of sums or of products.
-pub fn place(book: &Book, m: u8, t: u16, n: u32, k: u32) -> u16
+pub fn place(book: &Book, m: u8, t: u16, n: u32, k: u32) -> Option<u16>
     requires stands { Stands book.now.bytes book.now.index t TYPE }
     requires sort { T (is_sort m) }
     requires k_in_range { k < n }
@@ -48,21 +45,19 @@ pub fn place(book: &Book, m: u8, t: u16, n: u32, k: u32) -> u16
     let mut at = t;
     let mut count = n;
     let mut left = k;
+    // How often it turns depends on where the place is.
     while 1 < count {
-        if book.mark_at(at) != m {
-            return NONE;
-        }
         let half = split(count);
         if left < half {
-            at = book.field_at(at, 0);
+            at = side(book, m, at, 0)?;
             count = half;
         } else {
-            at = book.field_at(at, 1);
+            at = side(book, m, at, 1)?;
             count -= half;
             left -= half;
         }
     }
-    at
+    Some(at)
 }
 
 // Whether a type is unit.
@@ -81,14 +76,11 @@ pub fn is_bit(book: &Book, t: u16) -> bool
     if book.mark_at(t) != TS {
         return false;
     }
-    if !is_unit(book, book.field_at(t, 0)) {
-        return false;
-    }
-    is_unit(book, book.field_at(t, 1))
+    is_unit(book, book.field_at(t, 0)) && is_unit(book, book.field_at(t, 1))
 }
 
 // What a type is n of, in balanced pairs: n is a power of two, so both halves of each pair are one type.
-pub fn halved(book: &Book, t: u16, n: u32) -> u16
+pub fn halved(book: &Book, t: u16, n: u32) -> Option<u16>
     requires stands { Stands book.now.bytes book.now.index t TYPE }
     requires among { T (among powers n) }
     ensures { Gives book.now.bytes book.now.index (halved_of (top_of n) (type_of book.now.bytes book.now.index t)) result }
@@ -96,17 +88,14 @@ pub fn halved(book: &Book, t: u16, n: u32) -> u16
     let mut at = t;
     let mut count = n;
     while 1 < count {
-        if book.mark_at(at) != TP {
-            return NONE;
-        }
-        let part = book.field_at(at, 0);
-        if book.field_at(at, 1) != part {
-            return NONE;
+        let part = side(book, TP, at, 0)?;
+        if side(book, TP, at, 1) != Some(part) {
+            return None;
         }
         at = part;
         count /= 2;
     }
-    at
+    Some(at)
 }
 
 // Whether a type is a word of so many bits, a power of two.
@@ -115,11 +104,10 @@ pub fn is_word(book: &Book, t: u16, bits: u32) -> bool
     requires among { T (among powers bits) }
     ensures { result ≡ same (type_of book.now.bytes book.now.index t) (word_type bits) }
 {
-    let bit = halved(book, t, bits);
-    if bit == NONE {
-        return false;
+    match halved(book, t, bits) {
+        Some(bit) => is_bit(book, bit),
+        None => false,
     }
-    is_bit(book, bit)
 }
 
 // Whether a type is n of a type, in a row.
@@ -130,14 +118,7 @@ pub fn is_array(book: &Book, t: u16, n: u32, element: u16) -> bool
     requires n_in_range_too { n ≤ 256 }
     ensures { result ≡ same (type_of book.now.bytes book.now.index t) (array_type (type_of book.now.bytes book.now.index element) n) }
 {
-    let mut k: u32 = 0;
-    while k < n {
-        if place(book, TP, t, n, k) != element {
-            return false;
-        }
-        k += 1;
-    }
-    true
+    (0..n).all(|k| place(book, TP, t, n, k) == Some(element))
 }
 
 // Whether a type is a list's block: unit, or n of a type, a power of two.
@@ -150,10 +131,7 @@ pub fn is_block(book: &Book, t: u16, n: u32, element: u16) -> bool
     if book.mark_at(t) != TS {
         return false;
     }
-    if !is_unit(book, book.field_at(t, 0)) {
-        return false;
-    }
-    halved(book, book.field_at(t, 1), n) == element
+    is_unit(book, book.field_at(t, 0)) && halved(book, book.field_at(t, 1), n) == Some(element)
 }
 
 // Whether a type is the lists of a bound, of a type.
@@ -165,6 +143,7 @@ pub fn is_list(book: &Book, t: u16, bound: u32, element: u16) -> bool
 {
     let mut at = t;
     let mut half = bound / 2;
+    // What is halved each time is also what a block has: a range would not say it.
     while 1 < half {
         if book.mark_at(at) != TP {
             return false;
@@ -179,7 +158,7 @@ pub fn is_list(book: &Book, t: u16, bound: u32, element: u16) -> bool
 }
 
 // What a type is the lists of a bound of, if it is that at all: its last block has one element.
-pub fn element_of(book: &Book, t: u16, bound: u32) -> u16
+pub fn element_of(book: &Book, t: u16, bound: u32) -> Option<u16>
     requires stands { Stands book.now.bytes book.now.index t TYPE }
     requires list_bound { ListBound bound }
     ensures { Gives book.now.bytes book.now.index (element_of (top_of bound) (type_of book.now.bytes book.now.index t)) result }
@@ -187,10 +166,7 @@ pub fn element_of(book: &Book, t: u16, bound: u32) -> u16
     let mut at = t;
     let mut half = bound / 2;
     while 1 < half {
-        if book.mark_at(at) != TP {
-            return NONE;
-        }
-        at = book.field_at(at, 1);
+        at = side(book, TP, at, 1)?;
         half /= 2;
     }
     side(book, TS, at, 1)
@@ -202,12 +178,5 @@ pub fn has_places(book: &Book, t: u16, n: u32) -> bool
     requires n_in_range { n ≤ 256 }
     ensures { result ≡ has_places n (type_of book.now.bytes book.now.index t) }
 {
-    let mut k: u32 = 0;
-    while k < n {
-        if place(book, TS, t, n, k) == NONE {
-            return false;
-        }
-        k += 1;
-    }
-    true
+    (0..n).all(|k| place(book, TS, t, n, k).is_some())
 }

@@ -1,17 +1,17 @@
 // Whether an expression's or a value's declared type is the one that its parts' declared types give: a function a construct.
-ghost use Rattle.std.specs.Prelude.{◌≡◌, [], ◌∷◌, ◌+◌, ◌<◌, ◌≤◌, T};
+ghost use Rattle.std.specs.Prelude.{◌≡◌, [], ◌∷◌, ◌+◌, ◌*◌, ◌<◌, ◌≤◌, T};
 ghost use Rattle.laws.specs.Table.{among};
-ghost use Rattle.simplicity.specs.Types.{same};
+ghost use Rattle.simplicity.specs.Types.{product, two, same};
 ghost use Rattle.book.specs.Format.{TYPE, VALUE, EXPRESSION, FUNCTION, VP, EC, ET, EL, E0, EN, EB, EM, EH, CJ, CL, CD, CA, CN, CK, CF, CQ, CY, CW, CH, powers};
 ghost use Rattle.book.specs.Index.{mark, field, Lies};
 ghost use Rattle.book.specs.Stands.{Stands};
 ghost use Rattle.book.specs.Tree.{type_of, expr_of, declared_of};
 ghost use Rattle.parts.specs.Parts.{Marked};
-ghost use Rattle.shapes.specs.Shapes.{type_is, row_type, word_type, all_are, same_all, whole};
+ghost use Rattle.shapes.specs.Shapes.{type_is, products, place_of, is_at, row_type, word_type, all_are, same_all, whole};
 ghost use Rattle.shapes.specs.Wholes.{Elements, Declares, Folding, types_at, takes_at, words_at, value_agrees, result_type, accumulates};
 
 use crate::part::{
-    NONE, element_of, has_places, is_array, is_bit, is_list, is_unit, is_word, place, side, type_of,
+    element_of, has_places, is_array, is_bit, is_list, is_unit, is_word, place, side, type_of,
 };
 use book::format::{
     CA, CD, CF, CH, CJ, CK, CL, CN, CQ, CR, CW, CY, E0, E1, EB, EC, EH, EL, EM, EN, ET, TP, TS, VL,
@@ -31,25 +31,36 @@ fn part_type(book: &Book, r: u16, j: usize) -> u16
     type_of(book, e)
 }
 
+// The declared type of element k of a row.
+fn element_type(book: &Book, r: u16, span: Span, k: usize) -> u16
+    requires elements { Elements book.now.bytes book.now.index r span.stride span.from span.count }
+    requires k_in_range { k < span.count }
+    ensures { (Stands book.now.bytes book.now.index result TYPE) × (type_of book.now.bytes book.now.index result ≡ type_is (expr_of book.now.bytes book.now.index (field book.now.bytes book.now.index r (span.from + span.stride * k)))) }
+{
+    part_type(book, r, span.from + span.stride * k)
+}
+
+// Whether a type has the type of element k at place k of the row.
+fn is_placed(book: &Book, t: u16, r: u16, span: Span, k: usize) -> bool
+    requires stands { Stands book.now.bytes book.now.index t TYPE }
+    requires elements { Elements book.now.bytes book.now.index r span.stride span.from span.count }
+    requires k_in_range { k < span.count }
+    ensures { result ≡ is_at (place_of products span.count k (type_of book.now.bytes book.now.index t)) (type_is (expr_of book.now.bytes book.now.index (field book.now.bytes book.now.index r (span.from + span.stride * k)))) }
+{
+    let part = element_type(book, r, span, k);
+    place(book, TP, t, span.count as u32, k as u32) == Some(part)
+}
+
 // Whether a type is the row of the parts' types.
 pub fn is_row(book: &Book, t: u16, r: u16, span: Span) -> bool
     requires stands { Stands book.now.bytes book.now.index t TYPE }
     requires elements { Elements book.now.bytes book.now.index r span.stride span.from span.count }
     ensures { result ≡ same (type_of book.now.bytes book.now.index t) (row_type (types_at book.now.bytes book.now.index r span.stride span.from span.count)) }
 {
-    let n = span.count;
-    if n == 0 {
+    if span.count == 0 {
         return is_unit(book, t);
     }
-    let mut k: usize = 0;
-    while k < n {
-        let part = part_type(book, r, span.from + span.stride * k);
-        if place(book, TP, t, n as u32, k as u32) != part {
-            return false;
-        }
-        k += 1;
-    }
-    true
+    (0..span.count).all(|k| is_placed(book, t, r, span, k))
 }
 
 // Whether the parts all have a type.
@@ -58,15 +69,7 @@ fn are_all(book: &Book, t: u16, r: u16, span: Span) -> bool
     requires elements { Elements book.now.bytes book.now.index r span.stride span.from span.count }
     ensures { result ≡ all_are (type_of book.now.bytes book.now.index t) (types_at book.now.bytes book.now.index r span.stride span.from span.count) }
 {
-    let n = span.count;
-    let mut k: usize = 0;
-    while k < n {
-        if part_type(book, r, span.from + span.stride * k) != t {
-            return false;
-        }
-        k += 1;
-    }
-    true
+    (0..span.count).all(|k| element_type(book, r, span, k) == t)
 }
 
 // A constant: its value's declared type.
@@ -92,14 +95,10 @@ fn list(book: &Book, r: u16, t: u16) -> bool
 {
     let span = span_of(book, r, EL);
     let bound = book.field_at(r, 1) as u32;
-    let element = element_of(book, t, bound);
-    if element == NONE {
-        return false;
+    match element_of(book, t, bound) {
+        Some(element) => { is_list(book, t, bound, element) && are_all(book, element, r, span) }
+        None => false,
     }
-    if !is_list(book, t, bound, element) {
-        return false;
-    }
-    are_all(book, element, r, span)
 }
 
 // Left or right of a part: the side k of the declared type is the part's.
@@ -108,7 +107,7 @@ fn injection(book: &Book, r: u16, t: u16, k: usize) -> bool
     requires k_in_range { k < 2 }
     ensures { result ≡ whole (expr_of book.now.bytes book.now.index r) }
 {
-    side(book, TS, t, k) == part_type(book, r, 1)
+    side(book, TS, t, k) == Some(part_type(book, r, 1))
 }
 
 // A variant: the declared type has all the places, and that of the index is the payload's row.
@@ -121,11 +120,10 @@ fn variant(book: &Book, r: u16, t: u16) -> bool
     if !has_places(book, t, n) {
         return false;
     }
-    let payload = place(book, TS, t, n, book.field_at(r, 1) as u32);
-    if payload == NONE {
-        return false;
+    match place(book, TS, t, n, book.field_at(r, 1) as u32) {
+        Some(payload) => is_row(book, payload, r, span),
+        None => false,
     }
-    is_row(book, payload, r, span)
 }
 
 // A block: its end's type, or unit where there is none.
@@ -162,25 +160,29 @@ fn arms(book: &Book, r: u16, t: u16) -> bool
     are_all(book, t, r, span_of(book, r, EH))
 }
 
+// Whether a type is a carry beside a word of so many bits.
+fn is_carried(book: &Book, t: u16, bits: u32) -> bool
+    requires stands { Stands book.now.bytes book.now.index t TYPE }
+    requires among { T (among powers bits) }
+    ensures { result ≡ same (type_of book.now.bytes book.now.index t) (product two (word_type bits)) }
+{
+    if book.mark_at(t) != TP {
+        return false;
+    }
+    is_bit(book, book.field_at(t, 0)) && is_word(book, book.field_at(t, 1), bits)
+}
+
 // Whether a type is what a jet gives, by its width: unit, a bit, or a carry beside a word.
 fn is_result(book: &Book, t: u16, bits: u32) -> bool
     requires stands { Stands book.now.bytes book.now.index t TYPE }
     requires among { T (among (0 ∷ 1 ∷ 9 ∷ []) bits) }
     ensures { result ≡ same (type_of book.now.bytes book.now.index t) (result_type bits) }
 {
-    if bits == 0 {
-        return is_unit(book, t);
+    match bits {
+        0 => is_unit(book, t),
+        1 => is_bit(book, t),
+        _ => is_carried(book, t, bits - 1),
     }
-    if bits == 1 {
-        return is_bit(book, t);
-    }
-    if book.mark_at(t) != TP {
-        return false;
-    }
-    if !is_bit(book, book.field_at(t, 0)) {
-        return false;
-    }
-    is_word(book, book.field_at(t, 1), bits - 1)
 }
 
 // Whether the parts are all words of so many bits.
@@ -189,16 +191,7 @@ fn are_words(book: &Book, r: u16, span: Span, bits: u32) -> bool
     requires among { T (among powers bits) }
     ensures { result ≡ all_are (word_type bits) (types_at book.now.bytes book.now.index r span.stride span.from span.count) }
 {
-    let n = span.count;
-    let mut k: usize = 0;
-    while k < n {
-        let part = part_type(book, r, span.from + span.stride * k);
-        if !is_word(book, part, bits) {
-            return false;
-        }
-        k += 1;
-    }
-    true
+    (0..span.count).all(|k| is_word(book, element_type(book, r, span, k), bits))
 }
 
 // A jet: as many arguments as it takes, which share its input's bits, and its output.
@@ -212,10 +205,7 @@ fn jet(book: &Book, r: u16, t: u16) -> bool
         return false;
     }
     let bits = (jet.input / jet.arguments) as u32;
-    if !are_words(book, r, span, bits) {
-        return false;
-    }
-    is_result(book, t, jet.output as u32)
+    are_words(book, r, span, bits) && is_result(book, t, jet.output as u32)
 }
 
 // An unwrapped part: the side k of its type is the declared one.
@@ -225,7 +215,7 @@ fn unwrap(book: &Book, r: u16, t: u16, k: usize) -> bool
     ensures { result ≡ whole (expr_of book.now.bytes book.now.index r) }
 {
     let part = part_type(book, r, 2);
-    side(book, TS, part, k) == t
+    side(book, TS, part, k) == Some(t)
 }
 
 // Debug: its part's type.
@@ -241,11 +231,7 @@ fn assert(book: &Book, r: u16, t: u16) -> bool
     requires { Declares book.now.bytes book.now.index r CA t }
     ensures { result ≡ whole (expr_of book.now.bytes book.now.index r) }
 {
-    let part = part_type(book, r, 2);
-    if !is_bit(book, part) {
-        return false;
-    }
-    is_unit(book, t)
+    is_bit(book, part_type(book, r, 2)) && is_unit(book, t)
 }
 
 // IsNone: from a sum to a bit.
@@ -254,10 +240,7 @@ fn is_none(book: &Book, r: u16, t: u16) -> bool
     ensures { result ≡ whole (expr_of book.now.bytes book.now.index r) }
 {
     let part = part_type(book, r, 1);
-    if side(book, TS, part, 0) == NONE {
-        return false;
-    }
-    is_bit(book, t)
+    side(book, TS, part, 0).is_some() && is_bit(book, t)
 }
 
 // A cast: its part's type.
@@ -268,6 +251,17 @@ fn cast(book: &Book, r: u16, t: u16) -> bool
     part_type(book, r, 1) == t
 }
 
+// Whether argument k of a call is of the type of its function's parameter k, of n.
+fn is_taken(book: &Book, r: u16, f: u16, n: usize, k: usize) -> bool
+    requires elements { Elements book.now.bytes book.now.index r 1 3 n }
+    requires stands { Stands book.now.bytes book.now.index f FUNCTION }
+    requires n_is { n ≡ field book.now.bytes book.now.index f 1 }
+    requires k_in_range { k < n }
+    ensures { result ≡ same (type_is (expr_of book.now.bytes book.now.index (field book.now.bytes book.now.index r (3 + k)))) (type_of book.now.bytes book.now.index (field book.now.bytes book.now.index f (3 + 2 * k))) }
+{
+    part_type(book, r, 3 + k) == book.field_at(f, 3 + 2 * k)
+}
+
 // Whether the arguments of a call are what its function takes, of as many parameters.
 fn are_taken(book: &Book, r: u16, f: u16, n: usize) -> bool
     requires elements { Elements book.now.bytes book.now.index r 1 3 n }
@@ -275,14 +269,7 @@ fn are_taken(book: &Book, r: u16, f: u16, n: usize) -> bool
     requires n_is { n ≡ field book.now.bytes book.now.index f 1 }
     ensures { result ≡ same_all (types_at book.now.bytes book.now.index r 1 3 n) (takes_at book.now.bytes book.now.index f 2 n) }
 {
-    let mut k: usize = 0;
-    while k < n {
-        if part_type(book, r, 3 + k) != book.field_at(f, 3 + 2 * k) {
-            return false;
-        }
-        k += 1;
-    }
-    true
+    (0..n).all(|k| is_taken(book, r, f, n, k))
 }
 
 // A call: as many arguments as parameters, of their types, and what the function gives.
@@ -295,10 +282,7 @@ fn call(book: &Book, r: u16, t: u16) -> bool
     if book.field_at(f, 1) != n {
         return false;
     }
-    if !are_taken(book, r, f, n as usize) {
-        return false;
-    }
-    t == book.field_at(f, 0)
+    are_taken(book, r, f, n as usize) && t == book.field_at(f, 0)
 }
 
 // Whether a fold over e from a is of type t: its function takes an element and the accumulator and gives the accumulator.
@@ -310,10 +294,7 @@ fn is_accumulator(book: &Book, r: u16, f: u16, t: u16) -> bool
     if part_type(book, r, 4) != accumulator {
         return false;
     }
-    if t != accumulator {
-        return false;
-    }
-    book.field_at(f, 0) == accumulator
+    t == accumulator && book.field_at(f, 0) == accumulator
 }
 
 // A list fold.
@@ -327,13 +308,10 @@ fn list_fold(book: &Book, r: u16, t: u16) -> bool
     }
     let bound = book.field_at(r, 2) as u32;
     let list = part_type(book, r, 3);
-    if !is_list(book, list, bound, book.field_at(f, 3)) {
-        return false;
-    }
-    is_accumulator(book, r, f, t)
+    is_list(book, list, bound, book.field_at(f, 3)) && is_accumulator(book, r, f, t)
 }
 
-// An array fold.
+// An array fold. One function for both folds would be told the mark, and would have both requirements.
 fn array_fold(book: &Book, r: u16, t: u16) -> bool
     requires { Declares book.now.bytes book.now.index r CY t }
     ensures { result ≡ whole (expr_of book.now.bytes book.now.index r) }
@@ -344,10 +322,7 @@ fn array_fold(book: &Book, r: u16, t: u16) -> bool
     }
     let size = book.field_at(r, 2) as u32;
     let array = part_type(book, r, 3);
-    if !is_array(book, array, size, book.field_at(f, 3)) {
-        return false;
-    }
-    is_accumulator(book, r, f, t)
+    is_array(book, array, size, book.field_at(f, 3)) && is_accumulator(book, r, f, t)
 }
 
 // A loop, whose function takes three: the counter, the accumulator and the context, and what it gives.
@@ -372,10 +347,18 @@ fn for_while(book: &Book, r: u16, t: u16) -> bool
     if part_type(book, r, 4) != context {
         return false;
     }
-    if side(book, TS, t, 1) != accumulator {
-        return false;
-    }
-    book.field_at(f, 0) == t
+    side(book, TS, t, 1) == Some(accumulator) && book.field_at(f, 0) == t
+}
+
+// Whether expression k of a hash's n is a word of its width.
+fn is_hashed(book: &Book, r: u16, n: usize, k: usize) -> bool
+    requires marked { Marked book.now.bytes book.now.index r CH }
+    requires n_is { n ≡ field book.now.bytes book.now.index r 2 }
+    requires k_in_range { k < n }
+    ensures { result ≡ same (type_is (expr_of book.now.bytes book.now.index (field book.now.bytes book.now.index r (4 + 2 * k)))) (word_type (field book.now.bytes book.now.index r (3 + 2 * k))) }
+{
+    let bits = book.field_at(r, 3 + 2 * k) as u32;
+    is_word(book, part_type(book, r, 4 + 2 * k), bits)
 }
 
 // Whether a hash's n expressions are words of their widths.
@@ -384,16 +367,7 @@ fn are_hashed(book: &Book, r: u16, n: usize) -> bool
     requires n_is { n ≡ field book.now.bytes book.now.index r 2 }
     ensures { result ≡ words_at book.now.bytes book.now.index r 3 n }
 {
-    let mut k: usize = 0;
-    while k < n {
-        let bits = book.field_at(r, 3 + 2 * k) as u32;
-        let part = part_type(book, r, 4 + 2 * k);
-        if !is_word(book, part, bits) {
-            return false;
-        }
-        k += 1;
-    }
-    true
+    (0..n).all(|k| is_hashed(book, r, n, k))
 }
 
 // A hash: words of their widths, to a word of 256 bits.
@@ -402,10 +376,7 @@ fn hash(book: &Book, r: u16, t: u16) -> bool
     ensures { result ≡ whole (expr_of book.now.bytes book.now.index r) }
 {
     let n = book.field_at(r, 2) as usize;
-    if !are_hashed(book, r, n) {
-        return false;
-    }
-    is_word(book, t, 256)
+    are_hashed(book, r, n) && is_word(book, t, 256)
 }
 
 // A call, by its mark.
@@ -474,10 +445,7 @@ fn pair_agrees(book: &Book, r: u16, t: u16) -> bool
     if book.mark_at(t) != TP {
         return false;
     }
-    if book.field_at(t, 0) != value_type(book, r, 1) {
-        return false;
-    }
-    book.field_at(t, 1) == value_type(book, r, 2)
+    book.field_at(t, 0) == value_type(book, r, 1) && book.field_at(t, 1) == value_type(book, r, 2)
 }
 
 // A value, by its mark.
@@ -488,8 +456,8 @@ pub fn value_agrees(book: &Book, r: u16) -> bool
     let t = book.field_at(r, 0);
     match book.mark_at(r) {
         VU => is_unit(book, t),
-        VL => side(book, TS, t, 0) == value_type(book, r, 1),
-        VR => side(book, TS, t, 1) == value_type(book, r, 1),
+        VL => side(book, TS, t, 0) == Some(value_type(book, r, 1)),
+        VR => side(book, TS, t, 1) == Some(value_type(book, r, 1)),
         _ => pair_agrees(book, r, t),
     }
 }

@@ -9,6 +9,8 @@ use native.Mathlib.Omega.{arith}
 use lib.Dec.{T, eqb, ltb}
 use lib.ListN.{get_or}
 use borrow.Author.Tests.{eqb-false}
+use Rattle.std.specs.Prelude.{Ok, Err}
+use Rattle.std.specs.Result.{result_and}
 use Rattle.laws.specs.Table.{pick, among, every, ◌also◌}
 use Rattle.simplicity.specs.Types.{Ty, one}
 use Rattle.simplicity.proofs.Safe.{same_is}
@@ -16,35 +18,24 @@ use Rattle.book.specs.Format.{VALUE, EXPRESSION, STATEMENT, FUNCTION, EC, EW, EV
 use Rattle.book.specs.Index.{mark, field}
 use Rattle.book.specs.Stands.{Stands}
 use Rattle.book.specs.declared.fault.Fault.{Fault}
-use Rattle.book.specs.declared.fault.Refusal.{Refusal}
 use Rattle.book.specs.Tree.{Tree, Pat, Expr, Exprs, no_exprs, more_exprs, Arms, more_arms, Parts, more_parts, Stmts, assign, does, end, no_end, as_expr, as_stmt, as_fun, group, arms_at, parts_at, last_at, stmts_at, maker, tree, expr_of, fun_of}
 use Rattle.book.proofs.Roles.{layout, counted}
 use Rattle.book.proofs.Standing.{stands_mark, stands_tree, each_stands, each_below, last_stands, last_below, tail_stands, tail_below, function_mark}
 use Rattle.shapes.specs.Shapes.{type_is}
 use Rattle.binders.specs.Binders.{fits, names, twice, Binding}
-use Rattle.typing.specs.Check.{and_then, hold, binds, known, check, checks, words, arms, statements, check_fun}
+use Rattle.typing.specs.Check.{Checked, hold, binds, known, check, checks, words, arms, statements, check_fun}
 use Rattle.typing.specs.Typed.{Bindable, Typed, AllTyped, WordsTyped, ArmsTyped, RunTyped, FunTyped}
-use Rattle.typing.specs.declared.cycle.Checked.{Checked}
-use Rattle.typing.specs.declared.cycle.Checked.TheVariants.{Passed, Refused}
+use Rattle.typing.proofs.Judging.{refused_not, passed_holds}
 use Rattle.typing.proofs.Earlier.{Before, each_before, in_head_lem, in_group_lem}
 use Rattle.typing.proofs.Valued.{Good}
 
--- what refuses does not pass
-refused_not : {P : Type 0} (w : Refusal) → Refused w ≡ Passed → P
-refused_not w e = absurd (let z : ◌≡◌ {A = ℕ} 0 1 = cc in omega arith)
-
 -- where two judgements pass together each passes
-pub passed_both : (x v : Checked) → and_then x v ≡ Passed → (x ≡ Passed) × (v ≡ Passed)
-passed_both Passed v e = (refl, e)
-passed_both (Refused w) v e = refused_not w e
-
--- a rule that passes holds
-pub passed_holds : (t : Bool) (f : Fault) (r : ℕ) → hold t f r ≡ Passed → t ≡ true
-passed_holds true f r e = refl
-passed_holds false f r e = refused_not _ e
+pub passed_both : (x v : Checked) → result_and x v ≡ Ok tt → (x ≡ Ok tt) × (v ≡ Ok tt)
+passed_both (Ok u) v e = (refl, e)
+passed_both (Err w) v e = refused_not w tt e
 
 -- a part passes and then a rule: what the part's pass shows, and the rule
-passed_then : {A : Type 0} {x : Checked} {t : Bool} (f : Fault) (r : ℕ) → (x ≡ Passed → A) → and_then x (hold t f r) ≡ Passed → A × (t ≡ true)
+passed_then : {A : Type 0} {x : Checked} {t : Bool} (f : Fault) (r : ℕ) → (x ≡ Ok tt → A) → result_and x (hold t f r) ≡ Ok tt → A × (t ≡ true)
 passed_then {A} {x} {t} f r part e = let h = passed_both x (hold t f r) e in (part h.0, passed_holds t f r h.1)
 
 -- a test that fails, from its negation
@@ -53,17 +44,17 @@ not_true true e = sym e
 not_true false e = refl
 
 -- a binding that passes may be made
-passed_binds : (r : ℕ) (p : Pat) (t : Ty) → binds r p t ≡ Passed → Bindable p t
+passed_binds : (r : ℕ) (p : Pat) (t : Ty) → binds r p t ≡ Ok tt → Bindable p t
 unfolding binds
 passed_binds r p t e =
     let h = passed_then _ r (passed_holds (fits p t) _ r) e in
     record { fit = h.0; once = not_true (twice (names p)) h.1 }
 
 -- a name that passes has the declared type
-passed_known : (r : ℕ) (t : Ty) (o : Option Ty) → known r t o ≡ Passed → o ≡ some t
+passed_known : (r : ℕ) (t : Ty) (o : Option Ty) → known r t o ≡ Ok tt → o ≡ some t
 unfolding known
 passed_known r t (some u) e = ap some (sym (same_is t u (passed_holds _ _ r e)))
-passed_known r t none e = refused_not _ e
+passed_known r t none e = refused_not _ tt e
 
 -- what holds of the end of a group, and of each more if of what follows it, holds of the group
 pub group_all : {A : Type 0} (P : A → Type 0) (s : ℕ) (z : A) (add : ℕ → A → A) (j n : ℕ) → P z → ((k q : ℕ) → k ≡ j + q * s → q < n → (x : A) → P x → P (add k x)) → P (group s z add j n)
@@ -73,19 +64,19 @@ group_all P s z add j (suc n) e each = each j 0 (omega arith) (omega arith) _ (g
 
 -- wherever it passes it is typed: an expression, a row of them, words, arms from k of n on, a block's run
 abbrev Deepens : Expr → Type 0
-Deepens e = (sc : List Binding) → check e sc ≡ Passed → Typed sc e
+Deepens e = (sc : List Binding) → check e sc ≡ Ok tt → Typed sc e
 
 abbrev AllDeepen : Exprs → Type 0
-AllDeepen es = (sc : List Binding) → checks es sc ≡ Passed → AllTyped sc es
+AllDeepen es = (sc : List Binding) → checks es sc ≡ Ok tt → AllTyped sc es
 
 abbrev WordsDeepen : Parts → Type 0
-WordsDeepen ps = (sc : List Binding) → words ps sc ≡ Passed → WordsTyped sc ps
+WordsDeepen ps = (sc : List Binding) → words ps sc ≡ Ok tt → WordsTyped sc ps
 
 abbrev ArmsDeepen : ℕ → ℕ → Ty → Arms → Type 0
-ArmsDeepen r n t cs = (k : ℕ) (sc : List Binding) → arms r n k t cs sc ≡ Passed → ArmsTyped n k t sc cs
+ArmsDeepen r n t cs = (k : ℕ) (sc : List Binding) → arms r n k t cs sc ≡ Ok tt → ArmsTyped n k t sc cs
 
 abbrev RunDeepens : Stmts → Type 0
-RunDeepens ss = (sc : List Binding) → statements ss sc ≡ Passed → RunTyped sc ss
+RunDeepens ss = (sc : List Binding) → statements ss sc ≡ Ok tt → RunTyped sc ss
 
 -- one more of each
 more_all : (e : Expr) (es : Exprs) → Deepens e → AllDeepen es → AllDeepen (more_exprs e es)
@@ -191,7 +182,7 @@ module _ {b i : List ℕ} {r : ℕ} (s : Stands b i r EXPRESSION) (ih : Deepen b
       (λ k q z l ss. stmt_deepens (each_stands s EB is k q 0 (omega arith) l tt tt) (λ y o. ih y (omega (arith, each_below s EB is k q 0 (omega arith) l tt tt))) ss)
 
   -- a fold's or a loop's two parts, and what both show with a rule
-  parts_two : {t : Bool} (m : ℕ) (is : mark b i r ≡ m) → T (ltb 4 (layout m).heads) → T (ltb 3 (layout m).heads) → get_or (layout m).head 3 0 ≡ EXPRESSION → get_or (layout m).head 4 0 ≡ EXPRESSION → (f : Fault) (sc : List Binding) → and_then (and_then (check (as_expr (a 3)) sc) (check (as_expr (a 4)) sc)) (hold t f r) ≡ Passed → (Typed sc (as_expr (a 3))) × (Typed sc (as_expr (a 4))) × (t ≡ true)
+  parts_two : {t : Bool} (m : ℕ) (is : mark b i r ≡ m) → T (ltb 4 (layout m).heads) → T (ltb 3 (layout m).heads) → get_or (layout m).head 3 0 ≡ EXPRESSION → get_or (layout m).head 4 0 ≡ EXPRESSION → (f : Fault) (sc : List Binding) → result_and (result_and (check (as_expr (a 3)) sc) (check (as_expr (a 4)) sc)) (hold t f r) ≡ Ok tt → (Typed sc (as_expr (a 3))) × (Typed sc (as_expr (a 4))) × (t ≡ true)
   parts_two m is t u o y f sc h =
       let p = passed_then f r (passed_both _ _) h in
       (part s ih m is 3 u o sc p.0.0, part s ih m is 4 t y sc p.0.1, p.1)
@@ -253,7 +244,7 @@ passed_typed {b} {i} {r} s = each_before (λ x. Values b i x → Functions b i x
     r (omega arith) s
 
 -- a function's record that passes is typed, if those and the values before it are
-passed_fun : {b i : List ℕ} {g : ℕ} → Stands b i g FUNCTION → Values b i g → Functions b i g → check_fun (fun_of b i g) ≡ Passed → FunTyped (fun_of b i g)
+passed_fun : {b i : List ℕ} {g : ℕ} → Stands b i g FUNCTION → Values b i g → Functions b i g → check_fun (fun_of b i g) ≡ Ok tt → FunTyped (fun_of b i g)
 unfolding as_fun Typed check_fun
 passed_fun {b} {i} {g} s vs fs =
     let is = function_mark s in
@@ -267,5 +258,5 @@ passed_fun {b} {i} {g} s vs fs =
     (not_true _ (passed_holds _ _ g p.0), q.0, same_is _ _ q.1))
 
 -- so where every function before record n passes, every one is typed
-pub passed_funs : {b i : List ℕ} (n : ℕ) → Values b i n → Before b i (λ g. check_fun (fun_of b i g) ≡ Passed) FUNCTION n → Functions b i n
+pub passed_funs : {b i : List ℕ} (n : ℕ) → Values b i n → Before b i (λ g. check_fun (fun_of b i g) ≡ Ok tt) FUNCTION n → Functions b i n
 passed_funs {b} {i} n vs h = each_before (λ g. FunTyped (fun_of b i g)) FUNCTION n (λ g o s fs. passed_fun s (λ v l. vs v (omega arith)) fs (h g o s))

@@ -7,6 +7,8 @@ use mathlib.Core.Path.{◌≡◌, refl, sym, ap, subst, ◌∙◌}
 use native.Mathlib.Omega.{arith}
 use lib.Dec.{T, eqb, ltb, leb, leb→le, eqb→eq}
 use lib.ListN.{get_or}
+use Rattle.std.specs.Prelude.{Ok}
+use Rattle.std.specs.Result.{result_and}
 use Rattle.laws.specs.Table.{pick, both, among, both_left, both_right}
 use Rattle.book.specs.Format.{PATTERN, EXPRESSION, STATEMENT, FUNCTION, SA, SE, EB, EM, EH, CK, FN, END, within, in_range}
 use Rattle.book.specs.Index.{mark, field, named, depth, Lies}
@@ -19,9 +21,8 @@ use Rattle.parts.specs.Parts.{Marked, Spanned, row_marks, span_at}
 use Rattle.parts.specs.declared.view.Span.{Span}
 use Rattle.parts.proofs.Spans.{span_field, stmt_field, does_mark}
 use Rattle.binders.specs.Binders.{Binding}
-use Rattle.typing.specs.Check.{and_then, check}
+use Rattle.typing.specs.Check.{check}
 use Rattle.typing.specs.Cycle.{ArmAt, ArmsAt, checks_at}
-use Rattle.typing.specs.declared.cycle.Checked.TheVariants.{Passed}
 use Rattle.typing.proofs.Depths.{field_shallower, kind_shallower}
 
 -- record x, of kind kd, is a part of record r
@@ -47,13 +48,13 @@ module _ {b i : List ℕ} {r kd : ℕ} (s : Stands b i r kd) (m : ℕ) (is : mar
 
 -- the elements of a row, in a group of fields
 module _ (b i : List ℕ) (r : ℕ) (sc : List Binding) (s : ℕ) where
-  pub checks_next : (j n l : ℕ) → n ≡ suc l → checks_at b i r sc s j n ≡ and_then (check (expr_of b i (field b i r j)) sc) (checks_at b i r sc s (j + s) l)
+  pub checks_next : (j n l : ℕ) → n ≡ suc l → checks_at b i r sc s j n ≡ result_and (check (expr_of b i (field b i r j)) sc) (checks_at b i r sc s (j + s) l)
   unfolding checks_at
-  checks_next j n l e = group_next s Passed _ j n (j + s) l e refl
+  checks_next j n l e = group_next s (Ok tt) _ j n (j + s) l e refl
 
-  pub checks_none : (j n : ℕ) → n ≡ 0 → checks_at b i r sc s j n ≡ Passed
+  pub checks_none : (j n : ℕ) → n ≡ 0 → checks_at b i r sc s j n ≡ Ok tt
   unfolding checks_at
-  checks_none j n e = group_none s Passed _ j n e
+  checks_none j n e = group_none s (Ok tt) _ j n e
 
 -- element k of a record's span: a mark that has no row has no elements
 module _ {b i : List ℕ} {r m : ℕ} (g : Marked b i r m) {p : Span} (v : Spanned b i r m p) (k : ℕ) (h : k < p.count) where

@@ -8,6 +8,8 @@ use native.Mathlib.Omega.{arith}
 use native.Mathlib.Nat.{add-zero}
 use borrow.Author.Tests.{eq-eqb, ne_eqb}
 use lib.Dec.{T, eqb, eqb→eq}
+use Rattle.std.specs.Prelude.{Ok}
+use Rattle.std.specs.Result.{result_and}
 use Rattle.laws.specs.Table.{pick, among, every, ◌also◌}
 use Rattle.book.specs.Format.{STATEMENT, EC, EW, EV, ET, EL, E0, E1, EN, EB, SA, SE, EM, EH, CJ, CL, CR, CD, CA, CP, CN, CK, CF, CQ, CY, CW, CH}
 use Rattle.book.specs.Index.{mark, field}
@@ -18,26 +20,24 @@ use Rattle.simplicity.specs.Types.{Ty}
 use Rattle.parts.specs.Parts.{Marked, span_at}
 use Rattle.shapes.specs.Shapes.{type_is, whole}
 use Rattle.binders.specs.Binders.{Binding, type_for}
-use Rattle.typing.specs.Check.{and_then, agree, known, arm_count, check, checks, words, arms, statements, variant_type}
+use Rattle.typing.specs.Check.{Checked, agree, known, arm_count, check, checks, words, arms, statements, variant_type}
 use Rattle.typing.specs.Cycle.{checks_at, row_of, arm_of, arms_from, match_of, stmts_of, block_of, statement_of, entered_of, parts_of}
-use Rattle.typing.specs.declared.cycle.Checked.{Checked}
-use Rattle.typing.specs.declared.cycle.Checked.TheVariants.{Passed}
 use Rattle.typing.proofs.Judging.{then_pass, then_then}
 
 -- a row's elements, in groups of fields
 module _ (sc : List Binding) (x : ℕ → ℕ) (a : ℕ → Tree) where
   abbrev each : ℕ → Checked → Checked
-  each j v = and_then (check (as_expr (a j)) sc) v
+  each j v = result_and (check (as_expr (a j)) sc) v
 
-  checks_group : (k n : ℕ) → checks (exprs_at a k n) sc ≡ group 1 Passed each k n
+  checks_group : (k n : ℕ) → checks (exprs_at a k n) sc ≡ group 1 (Ok tt) each k n
   unfolding check group
   checks_group k zero = refl
-  checks_group k (suc n) = ap (and_then (check (as_expr (a k)) sc)) (checks_group (k + 1) n)
+  checks_group k (suc n) = ap (result_and (check (as_expr (a k)) sc)) (checks_group (k + 1) n)
 
-  words_group : (k n : ℕ) → words (parts_at x a k n) sc ≡ group 2 Passed each (k + 1) n
+  words_group : (k n : ℕ) → words (parts_at x a k n) sc ≡ group 2 (Ok tt) each (k + 1) n
   unfolding check group
   words_group k zero = refl
-  words_group k (suc n) = let e : k + 2 + 1 ≡ k + 1 + 2 = omega arith in ap (and_then (check (as_expr (a (k + 1))) sc)) (words_group (k + 2) n ∙ rw e)
+  words_group k (suc n) = let e : k + 2 + 1 ≡ k + 1 + 2 = omega arith in ap (result_and (check (as_expr (a (k + 1))) sc)) (words_group (k + 2) n ∙ rw e)
 
 arm_count_lem : (a : ℕ → Tree) (k n : ℕ) → arm_count (arms_at a k n) ≡ n
 unfolding arm_count group
@@ -61,11 +61,11 @@ module _ (b i : List ℕ) (r : ℕ) (sc : List Binding) where
   arms_group n t from k zero = refl
   arms_group n t from k (suc m) =
       let e : from + 2 * k + 2 ≡ from + 2 * suc k = omega arith in
-      ap (and_then (arm_of b i r (from + 2 * k) (variant_type n k t) sc)) (rw e (arms_group n t from (suc k) m))
+      ap (result_and (arm_of b i r (from + 2 * k) (variant_type n k t) sc)) (rw e (arms_group n t from (suc k) m))
 
   -- what holds of a mark's record: its parts, and then the whole
   abbrev PartsIs : ℕ → Type 0
-  PartsIs m = Marked b i r m → check (expr_of b i r) sc ≡ and_then (parts_of b i r m sc) (agree (whole (expr_of b i r)) r)
+  PartsIs m = Marked b i r m → check (expr_of b i r) sc ≡ result_and (parts_of b i r m sc) (agree (whole (expr_of b i r)) r)
 
   is_constant : PartsIs EC
   unfolding as_expr check parts_of row_of span_at checks_at group
@@ -163,7 +163,7 @@ module _ (b i : List ℕ) (r : ℕ) (sc : List Binding) where
   abbrev part_marks : List ℕ
   part_marks = EC ∷ EW ∷ ET ∷ EL ∷ E0 ∷ E1 ∷ EN ∷ EB ∷ EM ∷ EH ∷ CJ ∷ CL ∷ CR ∷ CD ∷ CA ∷ CP ∷ CN ∷ CK ∷ CF ∷ CQ ∷ CY ∷ CW ∷ CH ∷ []
 
-  pub parts_is : {m : ℕ} → Marked b i r m → (m ≡ EV → ⊥) → check (expr_of b i r) sc ≡ and_then (parts_of b i r m sc) (agree (whole (expr_of b i r)) r)
+  pub parts_is : {m : ℕ} → Marked b i r m → (m ≡ EV → ⊥) → check (expr_of b i r) sc ≡ result_and (parts_of b i r m sc) (agree (whole (expr_of b i r)) r)
   parts_is {m} g h =
       let t : T (pick (eqb m EV) true (among part_marks m)) = rw g.is at (stands_mark g.stands (λ j. pick (eqb j EV) true (among part_marks j)) tt tt) in
       every part_marks PartsIs
@@ -201,7 +201,7 @@ module _ (b i : List ℕ) (r : ℕ) (sc : List Binding) where
 -- a statement of a block, and then the rest
 module _ (b i : List ℕ) (s : ℕ) (sc : List Binding) where
   abbrev StmtIs : Stmts → Type 0
-  StmtIs rest = statements (as_stmt (tree b i s) rest) sc ≡ and_then (statement_of b i s sc) (statements rest (entered_of b i s sc))
+  StmtIs rest = statements (as_stmt (tree b i s) rest) sc ≡ result_and (statement_of b i s sc) (statements rest (entered_of b i s sc))
 
   assign_is : Stands b i s STATEMENT → mark b i s ≡ SA → (rest : Stmts) → StmtIs rest
   unfolding as_stmt check statement_of entered_of
@@ -227,11 +227,11 @@ module _ (b i : List ℕ) (r : ℕ) (sc : List Binding) where
       rw e (ap (λ q. as_stmt (tree b i (field b i r j)) (group 1 (last_at (field b i r) (λ k. tree b i (field b i r k)) q) (λ k. as_stmt (tree b i (field b i r k))) (j + 1) l)) z)
 
   -- the statements of a block from field j on: the first, and the rest
-  pub stmts_next : (j n l : ℕ) → n ≡ suc l → Stands b i (field b i r j) STATEMENT → statements (stmts_of b i r j n) sc ≡ and_then (statement_of b i (field b i r j) sc) (statements (stmts_of b i r (j + 1) l) (entered_of b i (field b i r j) sc))
+  pub stmts_next : (j n l : ℕ) → n ≡ suc l → Stands b i (field b i r j) STATEMENT → statements (stmts_of b i r j n) sc ≡ result_and (statement_of b i (field b i r j) sc) (statements (stmts_of b i r (j + 1) l) (entered_of b i (field b i r j) sc))
   stmts_next j n l e k = rw (stmts_first j n l e) (stmt_is b i (field b i r j) sc k (stmts_of b i r (j + 1) l))
 
   -- the end of a block
-  pub end_none : (k : ℕ) → field b i r k ≡ 65535 → statements (stmts_of b i r k 0) sc ≡ Passed
+  pub end_none : (k : ℕ) → field b i r k ≡ 65535 → statements (stmts_of b i r k 0) sc ≡ Ok tt
   unfolding check group stmts_of
   end_none k e = rw (add-zero, eq-eqb _ _ e)
 

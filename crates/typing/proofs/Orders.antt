@@ -5,11 +5,12 @@ use Rattle.std.specs.declared.result.Result.TheVariants.{Ok, Err}
 use Prim.Native.Nat.{ℕ, suc, ◌+◌, ◌-◌, ◌≤◌, ◌<◌}
 use mathlib.Core.Bool.{Bool, false}
 use mathlib.Core.List.{List, [], ◌∷◌}
-use mathlib.Core.Logic.{inl}
 use mathlib.Core.Path.{◌≡◌, refl, sym, ap, ◌∙◌}
 use native.Mathlib.Omega.{arith}
 use borrow.Author.Tests.{ne_eqb}
 use lib.ListN.{length, get_or, replicate, length-replicate}
+use Rattle.std.specs.Prelude.{Ok, Err, None}
+use Rattle.std.specs.Result.{result_and}
 use Rattle.laws.specs.Order.{by_lt}
 use Rattle.laws.specs.Table.{among, every, ◌also◌}
 use Rattle.book.specs.Format.{VALUE, PATTERN, FUNCTION, EXPRESSION, PI, PN, PT, FN, kind_of}
@@ -25,14 +26,13 @@ use Rattle.book.proofs.Tiles.{read_tiles}
 use Rattle.book.proofs.Roles.{record_begins}
 use Rattle.book.proofs.Standing.{stands_mark, stands_tree, head_below, each_below, function_mark}
 use Rattle.shapes.specs.Wholes.{value_agrees}
-use Rattle.shapes.specs.Views.{NONE}
 use Rattle.binders.specs.Binders.{names, twice, root_scope}
 use Rattle.binders.specs.Memos.{Known, Doubled, Live, scope_of}
-use Rattle.typing.specs.Check.{and_then, agree, check, check_fun}
+use Rattle.typing.specs.Check.{Checked, agree, check, check_fun}
+use Rattle.typing.specs.declared.cycle.Judge.{Judge}
 use Rattle.typing.specs.Cycle.{Among, Rows, Stays}
+use Rattle.typing.proofs.Judging.{Handed, first_halts, first_passes}
 use Rattle.typing.specs.Whole.{in_order, value_at, function_at, checking, answer_of, check_of}
-use Rattle.typing.specs.declared.cycle.Checked.{Checked}
-use Rattle.typing.specs.declared.cycle.Checked.TheVariants.{Passed, Refused}
 
 -- a record of a valid book
 pub among_of : {b i : List ℕ} {n r : ℕ} → Valid b i n → r < n → Among b i r
@@ -51,7 +51,7 @@ module _ {b i : List ℕ} {r : ℕ} (a : Among b i r) {m k : ℕ} (e : m ≡ mar
   stands_as kd q = record { records = a.records; valid = a.valid; inside = a.inside; is = sym kind_is ∙ q }
 
   -- a record that is no value, and one that is
-  pub value_none : (k ≡ VALUE → ⊥) → Passed ≡ value_at b i r
+  pub value_none : (k ≡ VALUE → ⊥) → Ok tt ≡ value_at b i r
   unfolding value_at
   value_none q = rw (← kind_is, ne_eqb k VALUE q)
 
@@ -60,7 +60,7 @@ module _ {b i : List ℕ} {r : ℕ} (a : Among b i r) {m k : ℕ} (e : m ≡ mar
   value_some q v d = d ∙ rw (← kind_is, q, v)
 
   -- a record that is no function, and one that is
-  pub function_none : (k ≡ FUNCTION → ⊥) → Passed ≡ function_at b i r
+  pub function_none : (k ≡ FUNCTION → ⊥) → Ok tt ≡ function_at b i r
   unfolding function_at
   function_none q = rw (← kind_is, ne_eqb k FUNCTION q)
 
@@ -73,44 +73,34 @@ module _ (f : ℕ → Checked) (n : ℕ) where
   pub order_start : in_order f 0 n ≡ in_order f 0 (n - 0)
   order_start = let z : n - 0 ≡ n = omega arith in rw z
 
-  pub order_next : (r s : ℕ) → r < n → s ≡ r + 1 → in_order f r (n - r) ≡ and_then (f r) (in_order f s (n - s))
+  pub order_next : (r s : ℕ) → r < n → s ≡ r + 1 → in_order f r (n - r) ≡ result_and (f r) (in_order f s (n - s))
   unfolding in_order
   order_next r s h e =
       let z : n - r ≡ suc (n - s) = omega arith in
       let y : s ≡ suc r = omega arith in
       rw (z, y)
 
-  pub order_none : (r : ℕ) → n ≤ r → Passed ≡ in_order f r (n - r)
+  pub order_none : (r : ℕ) → n ≤ r → Ok tt ≡ in_order f r (n - r)
   unfolding in_order
   order_none r h = let z : n - r ≡ 0 = omega arith in rw z
 
-  -- those before r have passed
-  pub record Passing (r : ℕ) : Type 0 where
-    pub low : r ≤ n
-    pub is : in_order f 0 n ≡ in_order f r (n - r)
+-- those before r have passed: so has one more, or it was refused
+module _ (f : ℕ → Checked) {n r : ℕ} {c : Checked} (p : in_order f 0 n ≡ in_order f r (n - r)) (h : r < n) (d : c ≡ f r) where
+  pub passing_next : (s : ℕ) → s ≡ r + 1 → c ≡ Ok tt → in_order f 0 n ≡ in_order f s (n - s)
+  passing_next s e u = p ∙ order_next f n r s h e ∙ first_passes _ u d
 
-pub passing_start : (f : ℕ → Checked) (n : ℕ) → Passing f n 0
-passing_start f n = record { low = omega arith; is = order_start f n }
-
-module _ {f : ℕ → Checked} {n r : ℕ} (p : Passing f n r) where
-  pub passing_next : (s : ℕ) {c : Checked} → r < n → s ≡ r + 1 → c ≡ f r → c ≡ Passed → Passing f n s
-  passing_next s h e d q = record { low = omega arith; is = p.is ∙ order_next f n r s h e ∙ rw (sym d ∙ q) }
-
-  pub passing_halt : {c : Checked} {w : Refusal} → r < n → c ≡ f r → c ≡ Refused w → Refused w ≡ in_order f 0 n
-  passing_halt h d q = sym (p.is ∙ order_next f n r (r + 1) h refl ∙ rw (sym d ∙ q))
-
-  pub passing_end : n ≤ r → Passed ≡ in_order f 0 n
-  passing_end h = order_none f n r h ∙ sym p.is
+  pub passing_halt : {a : Checked} → Handed c a → a ≡ in_order f 0 n
+  passing_halt g = first_halts _ g d ∙ sym (p ∙ order_next f n r (r + 1) h refl)
 
 -- the marks of patterns
 abbrev pattern_marks : List ℕ
 pattern_marks = PI ∷ PN ∷ PT ∷ []
 
 -- the root's scope
-pub root_live : {b i bs : List ℕ} → Live b i bs 0 NONE
-root_live = record { room = omega arith; each = λ j h. absurd (omega arith); based = inl refl }
+pub root_live : {b i bs : List ℕ} → Live b i bs 0 None
+root_live = record { room = omega arith; each = λ j h. absurd (omega arith); based = λ f e. absurd (let z : ◌≡◌ {A = ℕ} 0 1 = cc in omega arith) }
 
-pub root_scope_lem : (b i bs : List ℕ) → scope_of b i bs 0 NONE ≡ root_scope
+pub root_scope_lem : (b i bs : List ℕ) → scope_of b i bs 0 None ≡ root_scope
 unfolding scope_of
 root_scope_lem b i bs = refl
 
@@ -118,22 +108,22 @@ pub root_stands : {b i : List ℕ} {n : ℕ} → Valid b i n → Stands b i (n -
 root_stands v = record { records = _; valid = v; inside = omega (arith, v.some); is = v.root }
 
 -- the functions, and then the root
-module _ {b i : List ℕ} (n : ℕ) {bs : List ℕ} {a : Checked} {m₁ ms₁ bs₁ : List ℕ} (f : Stays b i (in_order (function_at b i) 0 n) 0 bs a m₁ ms₁ bs₁) where
-  pub functions_halt : {w : Refusal} → a ≡ Refused w → Refused w ≡ and_then (in_order (function_at b i) 0 n) (check (expr_of b i (n - 1)) root_scope)
-  functions_halt q = sym (rw (sym f.is ∙ q))
+module _ {b i : List ℕ} (n : ℕ) {q : Judge} {c : Checked} {q₁ : Judge} (f : Stays b i (in_order (function_at b i) 0 n) 0 q c q₁) where
+  pub functions_halt : {a : Checked} → Handed c a → a ≡ result_and (in_order (function_at b i) 0 n) (check (expr_of b i (n - 1)) root_scope)
+  functions_halt h = first_halts _ h f.is
 
-  pub root_last : {x : Checked} {m₂ ms₂ bs₂ : List ℕ} → a ≡ Passed → Stays b i (check (expr_of b i (n - 1)) (scope_of b i bs₁ 0 NONE)) 0 bs₁ x m₂ ms₂ bs₂ → x ≡ and_then (in_order (function_at b i) 0 n) (check (expr_of b i (n - 1)) root_scope)
-  root_last q g = g.is ∙ sym (rw (sym f.is ∙ q, root_scope_lem b i bs₁))
+  pub root_last : {x : Checked} {q₂ : Judge} → c ≡ Ok tt → Stays b i (check (expr_of b i (n - 1)) (scope_of b i q₁.bindings 0 None)) 0 q₁ x q₂ → x ≡ result_and (in_order (function_at b i) 0 n) (check (expr_of b i (n - 1)) root_scope)
+  root_last h g = g.is ∙ ap (check (expr_of b i (n - 1))) (root_scope_lem b i q₁.bindings) ∙ sym (first_passes _ h f.is)
 
 -- the values, and then these
 module _ (b i : List ℕ) (n : ℕ) {c : Checked} (d : c ≡ in_order (value_at b i) 0 n) where
-  pub values_halt : {w : Refusal} → c ≡ Refused w → Refused w ≡ checking b i n
+  pub values_halt : {a : Checked} → Handed c a → a ≡ checking b i n
   unfolding checking
-  values_halt e = sym (rw (sym d ∙ e))
+  values_halt h = first_halts _ h d
 
-  pub values_then : {x : Checked} → c ≡ Passed → x ≡ and_then (in_order (function_at b i) 0 n) (check (expr_of b i (n - 1)) root_scope) → x ≡ checking b i n
+  pub values_then : {x : Checked} → c ≡ Ok tt → x ≡ result_and (in_order (function_at b i) 0 n) (check (expr_of b i (n - 1)) root_scope) → x ≡ checking b i n
   unfolding checking
-  values_then e z = z ∙ sym (rw (sym d ∙ e))
+  values_then h e = e ∙ sym (first_passes _ h d)
 
 -- beyond the records the index has zeros, where the first record is read again: a pattern there has no name twice
 module _ {b i : List ℕ} {n r : ℕ} (v : Valid b i n) (w : Tiles b i n) (h : n ≤ r) (s : Stands b i r PATTERN) where
@@ -169,8 +159,8 @@ beyond_none {b} {n = n} v w h s =
     let first : Stands b _ 0 FUNCTION = record { records = n; valid = v; inside = v.some; is = ap (kind_at b) (w.begins ∙ sym (w.beyond _ h)) ∙ s.is } in
     omega (arith, head_below first FN (function_mark first) 0 tt tt)
 
--- the rows before the first judgement
-pub rows_first : {b i ds memo ms bs : List ℕ} {n : ℕ} → Valid b i n → Tiles b i n → Doubled b i n ds → Known b i memo → length ms ≡ 4096 → length bs ≡ 130560 → Rows b i ds memo ms bs
+-- what the first judgement works on
+pub rows_first : {b i : List ℕ} {q : Judge} {n : ℕ} → Valid b i n → Tiles b i n → Doubled b i n q.doubled.now → Known b i q.memo.now → length q.vain ≡ 4096 → length q.bindings ≡ 130560 → Rows b i q
 rows_first {n = n} v w d k m l = record {
   long = d.size;
   patterns = λ r s. by_lt r n (λ h. d.patterns r h s.is) (λ h. d.beyond r h ∙ rw (beyond_once v w h s));
@@ -214,11 +204,11 @@ module _ (b : List ℕ) {x : Result ℕ Refusal} (p : x ≡ read_of b) where
       answer_is : check_of b ≡ answer_of n c
       answer_is = by_read b n (sym p ∙ e) ∙ rw (d, q)
 
-      pub check_passed : c ≡ Passed → Ok n ≡ check_of b
+      pub check_passed : c ≡ Ok tt → Ok n ≡ check_of b
       unfolding answer_of
       check_passed f = sym (answer_is ∙ rw f)
 
-      pub check_refused : {w : Refusal} → c ≡ Refused w → Err w ≡ check_of b
+      pub check_refused : {w : Refusal} → c ≡ Err w → Err w ≡ check_of b
       unfolding answer_of
       check_refused f = sym (answer_is ∙ rw f)
 

@@ -2,20 +2,22 @@
 -- Assumes nothing.
 use Prim.Native.Nat.{ℕ, zero, suc, ◌+◌, ◌*◌, ◌<◌}
 use mathlib.Core.List.{List, ◌∷◌}
-use mathlib.Core.Path.{◌≡◌, refl, ◌∙◌}
+use mathlib.Core.Path.{◌≡◌, refl, ap, ◌∙◌}
 use native.Mathlib.Omega.{arith}
 use native.Mathlib.Numerals.{add-one}
 use lib.ListN.{length, get_or, set, length-set}
 use lib.Seq.{get_or-set_same, get_or-set_other}
+use Rattle.std.specs.Prelude.{Option as Answer}
 use Rattle.laws.specs.Order.{by_lt}
 use Rattle.book.specs.Tree.{type_of, pattern_of}
 use Rattle.binders.specs.Binders.{binding}
-use Rattle.binders.specs.Memos.{Known, Binds, Live, scope_of}
+use Rattle.binders.specs.Memos.{Binds, Live, scope_of}
+use Rattle.typing.specs.declared.cycle.Judge.{Judge}
+use Rattle.typing.specs.Check.{Checked}
 use Rattle.typing.specs.Cycle.{Rows, Scoped, Stays, Holds}
-use Rattle.typing.specs.declared.cycle.Checked.{Checked}
 
 -- two rows alike in their first n bindings
-module _ (b i bs bs' : List ℕ) (base : ℕ) where
+module _ (b i bs bs' : List ℕ) (base : Answer ℕ) where
   scope_same : (n : ℕ) → ((j : ℕ) → j < 2 * n → get_or bs' j 0 ≡ get_or bs j 0) → scope_of b i bs' n base ≡ scope_of b i bs n base
   unfolding scope_of
   scope_same zero h = refl
@@ -29,51 +31,55 @@ module _ (b i bs bs' : List ℕ) (base : ℕ) where
   }
 
 -- after a judgement the live bindings are as they were
-module _ {b i : List ℕ} {v : Checked} {n : ℕ} {bs : List ℕ} {c : Checked} {m ms' bs' : List ℕ} (s : Stays b i v n bs c m ms' bs') where
-  pub stays_scope : (base : ℕ) → scope_of b i bs' n base ≡ scope_of b i bs n base
-  stays_scope base = scope_same b i bs bs' base n s.before
+module _ {b i : List ℕ} {v : Checked} {n : ℕ} {q : Judge} {c : Checked} {q' : Judge} (s : Stays b i v n q c q') where
+  pub stays_scope : (base : Answer ℕ) → scope_of b i q'.bindings n base ≡ scope_of b i q.bindings n base
+  stays_scope base = scope_same b i q.bindings q'.bindings base n s.before
 
-  pub stays_rows : {ds memo ms : List ℕ} → Rows b i ds memo ms bs → Rows b i ds m ms' bs'
-  stays_rows h = record { long = h.long; patterns = h.patterns; functions = h.functions; known = s.known; missing = s.missing; room = s.kept ∙ h.room }
+  pub stays_rows : Rows b i q → Rows b i q'
+  stays_rows h = record {
+    long = ap length s.doubled ∙ h.long;
+    patterns = λ r k. ap (λ ds. get_or ds r 0) s.doubled ∙ h.patterns r k;
+    functions = λ r k. ap (λ ds. get_or ds r 0) s.doubled ∙ h.functions r k;
+    known = s.known;
+    missing = s.missing;
+    room = s.kept ∙ h.room;
+  }
 
-  pub stays_scoped : {ds memo ms : List ℕ} {base : ℕ} → Scoped b i ds memo ms bs n base → Scoped b i ds m ms' bs' n base
-  stays_scoped {base = base} h = record { rows = stays_rows h.rows; live = live_same b i bs bs' base n s.kept s.before h.live }
+  pub stays_scoped : {base : Answer ℕ} → Scoped b i q n base → Scoped b i q' n base
+  stays_scoped {base} h = record { rows = stays_rows h.rows; live = live_same b i q.bindings q'.bindings base n s.kept s.before h.live }
 
 -- one more binding
-module _ {b i ds memo ms bs : List ℕ} {n base : ℕ} (s : Scoped b i ds memo ms bs n base) (h : n < 65280) (p t : ℕ) where
+module _ {b i : List ℕ} {q : Judge} {n : ℕ} {base : Answer ℕ} (s : Scoped b i q n base) (h : n < 65280) (p t : ℕ) where
   abbrev pub wider : List ℕ
-  wider = set (set bs (2 * n) p) (2 * n + 1) t
+  wider = set (set q.bindings (2 * n) p) (2 * n + 1) t
 
-  fits_two : 2 * n + 1 < length bs
+  fits_two : 2 * n + 1 < length q.bindings
   fits_two = omega (arith, s.rows.room)
 
-  pub second_fits_lem : 2 * n + 1 < length (set bs (2 * n) p)
-  second_fits_lem = omega (arith, fits_two, length-set bs (2 * n) p)
+  pub second_fits_lem : 2 * n + 1 < length (set q.bindings (2 * n) p)
+  second_fits_lem = omega (arith, fits_two, length-set q.bindings (2 * n) p)
 
-  wider_before : (j : ℕ) → j < 2 * n → get_or wider j 0 ≡ get_or bs j 0
-  wider_before j o = get_or-set_other (set bs (2 * n) p) (2 * n + 1) j t 0 (λ z. omega arith) ∙ get_or-set_other bs (2 * n) j p 0 (λ z. omega arith)
+  pub wider_before : (j : ℕ) → j < 2 * n → get_or wider j 0 ≡ get_or q.bindings j 0
+  wider_before j o = get_or-set_other (set q.bindings (2 * n) p) (2 * n + 1) j t 0 (λ z. omega arith) ∙ get_or-set_other q.bindings (2 * n) j p 0 (λ z. omega arith)
 
   wider_pattern : get_or wider (2 * n) 0 ≡ p
-  wider_pattern = get_or-set_other (set bs (2 * n) p) (2 * n + 1) (2 * n) t 0 (λ z. omega arith) ∙ get_or-set_same bs (2 * n) p 0 (omega (arith, fits_two))
+  wider_pattern = get_or-set_other (set q.bindings (2 * n) p) (2 * n + 1) (2 * n) t 0 (λ z. omega arith) ∙ get_or-set_same q.bindings (2 * n) p 0 (omega (arith, fits_two))
 
   wider_type : get_or wider (2 * n + 1) 0 ≡ t
-  wider_type = get_or-set_same (set bs (2 * n) p) (2 * n + 1) t 0 (omega (arith, fits_two, length-set bs (2 * n) p))
+  wider_type = get_or-set_same (set q.bindings (2 * n) p) (2 * n + 1) t 0 (omega (arith, fits_two, length-set q.bindings (2 * n) p))
 
-  pub wider_length : length wider ≡ length bs
-  wider_length = length-set (set bs (2 * n) p) (2 * n + 1) t ∙ length-set bs (2 * n) p
+  pub wider_length : length wider ≡ length q.bindings
+  wider_length = length-set (set q.bindings (2 * n) p) (2 * n + 1) t ∙ length-set q.bindings (2 * n) p
 
-  pub wider_stays : {m : List ℕ} {c v : Checked} → c ≡ v → Known b i m → Stays b i v n bs c m ms wider
-  wider_stays e k = record { is = e; known = k; missing = s.rows.missing; kept = wider_length; before = wider_before }
-
-  pub wider_holds : Binds b i p t → Holds b i wider (n + 1) base (binding (pattern_of b i p) (type_of b i t) ∷ scope_of b i bs n base)
+  pub wider_holds : Binds b i p t → Holds b i wider (n + 1) base (binding (pattern_of b i p) (type_of b i t) ∷ scope_of b i q.bindings n base)
   unfolding scope_of
   wider_holds d = rw (add-one n) (record {
     live = record {
       room = omega (arith, fits_two, wider_length);
       each = λ j o. by_lt j n
-          (λ q. rw (wider_before (2 * j) (omega arith), wider_before (2 * j + 1) (omega arith)) (s.live.each j q))
-          (λ q. let e : j ≡ n = omega arith in rw (e, wider_pattern, wider_type) d);
+          (λ l. rw (wider_before (2 * j) (omega arith), wider_before (2 * j + 1) (omega arith)) (s.live.each j l))
+          (λ l. let e : j ≡ n = omega arith in rw (e, wider_pattern, wider_type) d);
       based = s.live.based;
     };
-    is = rw (wider_pattern, wider_type, scope_same b i bs wider base n wider_before);
+    is = rw (wider_pattern, wider_type, scope_same b i q.bindings wider base n wider_before);
   })

@@ -1,6 +1,7 @@
 -- What each function of CHECK's cycle does, by the mark of its record, and what it asks of the rows that it is lent.
 -- Assumes nothing.
-use Rattle.std.specs.Prelude.{ℕ, zero, suc, ◌+◌, ◌*◌, ◌≤◌, ◌<◌, ◌≡◌, true, List, ◌∷◌, eqb, length, get_or}
+use Rattle.std.specs.Prelude.{ℕ, zero, suc, ◌+◌, ◌*◌, ◌≤◌, ◌<◌, ◌≡◌, true, List, ◌∷◌, eqb, length, get_or, Ok, Option}
+use Rattle.std.specs.Result.{result_and}
 use Rattle.laws.specs.Table.{pick}
 use Rattle.simplicity.specs.Types.{Ty, one, same}
 use Rattle.book.specs.Format.{TYPE, PATTERN, EXPRESSION, FUNCTION, SA, EB, EM, EH, CK}
@@ -12,9 +13,8 @@ use Rattle.parts.specs.Parts.{span_at}
 use Rattle.shapes.specs.Shapes.{type_is, has_places}
 use Rattle.binders.specs.Binders.{Binding, binding}
 use Rattle.binders.specs.Memos.{Known, pattern_twice, params_twice, Live, scope_of}
-use Rattle.typing.specs.Check.{and_then, agree, binds, variant_type, check, statements}
-use Rattle.typing.specs.declared.cycle.Checked.{Checked}
-use Rattle.typing.specs.declared.cycle.Checked.TheVariants.{Passed}
+use Rattle.typing.specs.declared.cycle.Judge.{Judge}
+use Rattle.typing.specs.Check.{Checked, agree, binds, variant_type, check, statements}
 
 -- one of a valid book's records
 pub record Among (b i : List ℕ) (r : ℕ) : Type 0 where
@@ -22,61 +22,62 @@ pub record Among (b i : List ℕ) (r : ℕ) : Type 0 where
   pub valid : Valid b i records
   pub inside : r < records
 
--- the rows that a judgement is lent: which patterns and functions have a name twice, which pairs are known to fit, which records were searched in vain, and the live bindings, with room for 256 of them at each of 255 depths
-pub record Rows (b i ds memo ms bs : List ℕ) : Type 0 where
-  pub long : length ds ≡ 4096
-  pub patterns : (r : ℕ) → Stands b i r PATTERN → get_or ds r 0 ≡ pick (pattern_twice b i r) 1 0
-  pub functions : (r : ℕ) → Stands b i r FUNCTION → get_or ds r 0 ≡ pick (params_twice b i r) 1 0
-  pub known : Known b i memo
-  pub missing : length ms ≡ 4096
-  pub room : length bs ≡ 130560
+-- what a judgement works on: which patterns and functions have a name twice, which pairs are known to fit, which records were searched in vain, and the live bindings, with room for 256 of them at each of 255 depths
+pub record Rows (b i : List ℕ) (q : Judge) : Type 0 where
+  pub long : length q.doubled.now ≡ 4096
+  pub patterns : (r : ℕ) → Stands b i r PATTERN → get_or q.doubled.now r 0 ≡ pick (pattern_twice b i r) 1 0
+  pub functions : (r : ℕ) → Stands b i r FUNCTION → get_or q.doubled.now r 0 ≡ pick (params_twice b i r) 1 0
+  pub known : Known b i q.memo.now
+  pub missing : length q.vain ≡ 4096
+  pub room : length q.bindings ≡ 130560
 
 -- where n bindings are live
-pub record Scoped (b i ds memo ms bs : List ℕ) (n base : ℕ) : Type 0 where
-  pub rows : Rows b i ds memo ms bs
-  pub live : Live b i bs n base
+pub record Scoped (b i : List ℕ) (q : Judge) (n : ℕ) (base : Option ℕ) : Type 0 where
+  pub rows : Rows b i q
+  pub live : Live b i q.bindings n base
 
 -- there is room for the bindings of record r and of all below it: at most 256 at each depth
 pub record Enough (b i : List ℕ) (r n : ℕ) : Type 0 where
   pub room : n + 256 * depth b i r ≤ 65280
 
--- a judgement that comes to v gave c; the n live bindings stay as they were
-pub record Stays (b i : List ℕ) (v : Checked) (n : ℕ) (bs : List ℕ) (c : Checked) (memo' ms' bs' : List ℕ) : Type 0 where
+-- a judgement that comes to v gave c; the names and the n live bindings stay as they were
+pub record Stays (b i : List ℕ) (v : Checked) (n : ℕ) (q : Judge) (c : Checked) (q' : Judge) : Type 0 where
   pub is : c ≡ v
-  pub known : Known b i memo'
-  pub missing : length ms' ≡ 4096
-  pub kept : length bs' ≡ length bs
-  pub before : (j : ℕ) → j < 2 * n → get_or bs' j 0 ≡ get_or bs j 0
+  pub doubled : q'.doubled.now ≡ q.doubled.now
+  pub known : Known b i q'.memo.now
+  pub missing : length q'.vain ≡ 4096
+  pub kept : length q'.bindings ≡ length q.bindings
+  pub before : (j : ℕ) → j < 2 * n → get_or q'.bindings j 0 ≡ get_or q.bindings j 0
 
 -- the row holds n live bindings, which make the scope sc
-pub record Holds (b i bs : List ℕ) (n base : ℕ) (sc : List Binding) : Type 0 where
+pub record Holds (b i bs : List ℕ) (n : ℕ) (base : Option ℕ) (sc : List Binding) : Type 0 where
   pub live : Live b i bs n base
   pub is : scope_of b i bs n base ≡ sc
 
 -- a binding of pattern p to type t, where n are live
-pub record Bound (b i : List ℕ) (v : Checked) (p t n base : ℕ) (bs : List ℕ) (c : Checked) (memo' ms' bs' : List ℕ) : Type 0 where
-  pub stays : Stays b i v n bs c memo' ms' bs'
-  pub newer : c ≡ Passed → Holds b i bs' (n + 1) base (binding (pattern_of b i p) (type_of b i t) ∷ scope_of b i bs n base)
+pub record Bound (b i : List ℕ) (v : Checked) (p t n : ℕ) (base : Option ℕ) (q : Judge) (c : Checked) (q' : Judge) : Type 0 where
+  pub stays : Stays b i v n q c q'
+  pub newer : c ≡ Ok tt → Holds b i q'.bindings (n + 1) base (binding (pattern_of b i p) (type_of b i t) ∷ scope_of b i q.bindings n base)
 
 module _ (b i : List ℕ) where
   -- the elements of a record's row
   unfoldable pub checks_at : ℕ → List Binding → ℕ → ℕ → ℕ → Checked
-  checks_at r sc s k n = group s Passed (λ j v. and_then (check (expr_of b i (field b i r j)) sc) v) k n
+  checks_at r sc s k n = group s (Ok tt) (λ j v. result_and (check (expr_of b i (field b i r j)) sc) v) k n
 
   unfoldable pub row_of : ℕ → ℕ → List Binding → Checked
   row_of r m sc = let p = span_at m (field b i r) in checks_at r sc p.stride p.from p.count
 
   -- the arm whose pattern is field j, of type t; the arms from k of n on, of which so many are left, of a match on type t
   unfoldable pub arm_of : ℕ → ℕ → Ty → List Binding → Checked
-  arm_of r j t sc = and_then (binds r (pattern_of b i (field b i r j)) t) (check (expr_of b i (field b i r (j + 1))) (binding (pattern_of b i (field b i r j)) t ∷ sc))
+  arm_of r j t sc = result_and (binds r (pattern_of b i (field b i r j)) t) (check (expr_of b i (field b i r (j + 1))) (binding (pattern_of b i (field b i r j)) t ∷ sc))
 
   unfoldable pub arms_from : ℕ → ℕ → ℕ → Ty → List Binding → ℕ → ℕ → Checked
-  arms_from r from n t sc k zero = Passed
-  arms_from r from n t sc k (suc left) = and_then (arm_of r (from + 2 * k) (variant_type n k t) sc) (arms_from r from n t sc (suc k) left)
+  arms_from r from n t sc k zero = Ok tt
+  arms_from r from n t sc k (suc left) = result_and (arm_of r (from + 2 * k) (variant_type n k t) sc) (arms_from r from n t sc (suc k) left)
 
   unfoldable pub match_of : ℕ → ℕ → ℕ → List Binding → Checked
   match_of r from n sc = let e = expr_of b i (field b i r 1) in
-      and_then (agree (has_places n (type_is e)) r) (and_then (arms_from r from n (type_is e) sc 0 n) (check e sc))
+      result_and (agree (has_places n (type_is e)) r) (result_and (arms_from r from n (type_is e) sc 0 n) (check e sc))
 
   -- the n statements of a block from field k on, and its end
   unfoldable pub stmts_of : ℕ → ℕ → ℕ → Stmts
@@ -88,8 +89,8 @@ module _ (b i : List ℕ) where
   -- a statement, and the scope of the rest of its block; how many bindings are live there
   unfoldable pub statement_of : ℕ → List Binding → Checked
   statement_of s sc = pick (eqb (mark b i s) SA)
-      (and_then (check (expr_of b i (field b i s 1)) sc) (binds s (pattern_of b i (field b i s 0)) (type_is (expr_of b i (field b i s 1)))))
-      (and_then (check (expr_of b i (field b i s 0)) sc) (agree (same (type_is (expr_of b i (field b i s 0))) one) s))
+      (result_and (check (expr_of b i (field b i s 1)) sc) (binds s (pattern_of b i (field b i s 0)) (type_is (expr_of b i (field b i s 1)))))
+      (result_and (check (expr_of b i (field b i s 0)) sc) (agree (same (type_is (expr_of b i (field b i s 0))) one) s))
 
   unfoldable pub entered_of : ℕ → List Binding → List Binding
   entered_of s sc = pick (eqb (mark b i s) SA) (binding (pattern_of b i (field b i s 0)) (type_is (expr_of b i (field b i s 1))) ∷ sc) sc
@@ -106,9 +107,9 @@ module _ (b i : List ℕ) where
       (pick (eqb m CK) (check (expr_of b i (field b i r 1)) sc) (row_of r m sc))))
 
 -- the statement s
-pub record Stated (b i : List ℕ) (s n base : ℕ) (bs : List ℕ) (c : Checked) (memo' ms' bs' : List ℕ) : Type 0 where
-  pub stays : Stays b i (statement_of b i s (scope_of b i bs n base)) n bs c memo' ms' bs'
-  pub newer : c ≡ Passed → Holds b i bs' (live_after b i s n) base (entered_of b i s (scope_of b i bs n base))
+pub record Stated (b i : List ℕ) (s n : ℕ) (base : Option ℕ) (q : Judge) (c : Checked) (q' : Judge) : Type 0 where
+  pub stays : Stays b i (statement_of b i s (scope_of b i q.bindings n base)) n q c q'
+  pub newer : c ≡ Ok tt → Holds b i q'.bindings (live_after b i s n) base (entered_of b i s (scope_of b i q.bindings n base))
 
 -- the arm whose pattern is field j: a pattern and an expression, both of lesser depth
 pub record ArmAt (b i : List ℕ) (r j : ℕ) : Type 0 where

@@ -45,23 +45,23 @@ fits_row-loop-k-init t c = fitting_none c.requires.1.1.1 c.requires.0 _ c.requir
 pub fits_row-field_at-part-requires : goal.fits_row-field_at-part-requires
 fits_row-field_at-part-requires t c = search row_lies
 
-pub fits_row-place-s-requires : goal.fits_row-place-s-requires
-fits_row-place-s-requires t c = record { stands = c.requires.1.1.0; sort = tt; k_in_range = search rules; n_in_range = c.loop-k.invariant.few }
+pub fits_row-place-requires : goal.fits_row-place-requires
+fits_row-place-requires t c = record { stands = c.requires.1.1.0; sort = tt; k_in_range = search rules; n_in_range = c.loop-k.invariant.few }
 
-pub fits_row-returns-then-s : goal.fits_row-returns-then-s
-fits_row-returns-then-s t c = fitting_nowhere c.loop-k.invariant c.loop-k-test.true c.place-s.ensures c.if-s.true
+pub fits_row-returns-in_default : goal.fits_row-returns-in_default
+fits_row-returns-in_default t c = fitting_nowhere c.loop-k.invariant c.loop-k-test.true c.in_default.ensures
 
 pub fits_row-fits-requires : goal.fits_row-fits-requires
 fits_row-fits-requires t c =
-    let part = row_part c.requires.0 _ _ _ c.requires.1.0 c.field_at-n.ensures c.loop-k-test.true refl _ c.field_at-part.ensures in (omega (arith, part.1), (part.0, (gives_stands c.place-s.ensures c.if-s.false, c.loop-k.invariant.known)))
+    let part = row_part c.requires.0 _ _ _ c.requires.1.0 c.field_at-n.ensures c.loop-k-test.true refl _ c.field_at-part.ensures in (omega (arith, part.1), (part.0, (gives_stands c.in-Some.ensures, c.loop-k.invariant.known)))
 
 pub fits_row-returns-then-not-fits : goal.fits_row-returns-then-not-fits
 fits_row-returns-then-not-fits t c =
-    fitting_not c.loop-k.invariant c.loop-k-test.true c.place-s.ensures c.if-s.false (rw c.field_at-part.ensures at c.fits.ensures) c.if-not-fits.true
+    fitting_not c.loop-k.invariant c.loop-k-test.true c.in-Some.ensures (rw c.field_at-part.ensures at c.fits.ensures) c.if-not-fits.true
 
 pub fits_row-loop-k-preserved : goal.fits_row-loop-k-preserved
 fits_row-loop-k-preserved t c =
-    fitting_next c.loop-k.invariant c.loop-k-test.true c.place-s.ensures c.if-s.false (rw c.field_at-part.ensures at c.fits.ensures) c.if-not-fits.false (omega arith) (search rules)
+    fitting_next c.loop-k.invariant c.loop-k-test.true c.in-Some.ensures (rw c.field_at-part.ensures at c.fits.ensures) c.if-not-fits.false (omega arith) (search rules)
 
 pub fits_row-returns : goal.fits_row-returns
 fits_row-returns t c = fitting_all c.loop-k.invariant (omega arith)

@@ -1,6 +1,6 @@
 -- `fits` and `fits_row` meet their contracts: by the pattern's mark, and what is marked fits; each element before k fits at its place.
 -- Assumes nothing.
-use Prim.Native.Nat.{◌+◌, ◌*◌, ◌-◌}
+use Prim.Native.Nat.{◌+◌, ◌*◌}
 use Rattle.book.specs.Index.{field}
 use Rattle.book.specs.Tree.{type_of, pattern_of}
 use Rattle.binders.specs.Binders.{fits}
@@ -16,6 +16,3 @@ decreases-fits_row l = 2 * l.p
 abbrev pub invariant-fits_row-loop-k : goal.invariant-fits_row-loop-k
 invariant-fits_row-loop-k l =
     Fitting l.book.bytes l.book.index (fits (pattern_of l.book.bytes l.book.index l.p) (type_of l.book.bytes l.book.index l.t)) l.n (λ j. pattern_of l.book.bytes l.book.index (field l.book.bytes l.book.index l.p j)) (type_of l.book.bytes l.book.index l.t) l.k l.initial.memo l.memo
-
-abbrev pub decreases-fits_row-loop-k : goal.decreases-fits_row-loop-k
-decreases-fits_row-loop-k l = l.n - l.k

@@ -1,6 +1,6 @@
 -- `note_all` and `note_row` meet their contracts: by the pattern's mark; each name of the elements before k was met.
 -- Assumes nothing.
-use Prim.Native.Nat.{◌+◌, ◌*◌, ◌-◌}
+use Prim.Native.Nat.{◌+◌, ◌*◌}
 use Rattle.book.specs.Index.{field}
 use Rattle.book.specs.Tree.{pattern_of}
 use Rattle.binders.specs.Binders.{names}
@@ -17,6 +17,3 @@ decreases-note_row l = 2 * l.p
 abbrev pub invariant-note_row-loop-k : goal.invariant-note_row-loop-k
 invariant-note_row-loop-k l =
     Nameless l.book.bytes l.book.index l.nameless × Meets l.stamp (names (pattern_of l.book.bytes l.book.index l.p)) l.initial.met 1 (λ j. names (pattern_of l.book.bytes l.book.index (field l.book.bytes l.book.index l.p j))) 1 l.n l.k l.any l.met
-
-abbrev pub decreases-note_row-loop-k : goal.decreases-note_row-loop-k
-decreases-note_row-loop-k l = l.n - l.k

@@ -5,7 +5,4 @@ use Rattle.binders.proofs.Scopes.{Older}
 use Rattle.binders.proofs.newest_type.Given as goal
 
 abbrev pub invariant-loop-at : goal.invariant-loop-at
-invariant-loop-at l = Memo l.book.bytes l.book.index l.name l.missing × Older l.book.bytes l.book.index l.bindings l.live l.base l.name l.at
-
-abbrev pub decreases-loop-at : goal.decreases-loop-at
-decreases-loop-at l = l.at
+invariant-loop-at l = Memo l.book.bytes l.book.index l.name l.missing × Older l.book.bytes l.book.index l.bindings l.live l.fn.base l.name l.at

@@ -9,15 +9,15 @@ use Rattle.binders.proofs.repeats.Goals as goal
 pub bounds-nameless-p : goal.bounds-nameless-p
 bounds-nameless-p c = nameless_fits c.requires.nameless c.requires.stands
 
-pub returns-then-s : goal.returns-then-s
-returns-then-s c = repeats_none c.requires.stands c.bearer-s.ensures c.requires.met c.requires.nameless c.if-s.true
+pub returns-in_default : goal.returns-in_default
+returns-in_default c = repeats_none c.requires.stands c.requires.met c.requires.nameless c.in_default.ensures
 
 pub bounds-doubled-s : goal.bounds-doubled-s
-bounds-doubled-s c = part_fits c.requires.stands c.bearer-s.ensures c.requires.met c.requires.nameless c.requires.doubled c.if-s.false
+bounds-doubled-s c = part_fits c.in-Some.ensures c.requires.doubled
 
 pub returns-then-s-p : goal.returns-then-s-p
 returns-then-s-p c =
-    repeats_part c.requires.stands c.bearer-s.ensures c.requires.met c.requires.nameless c.requires.doubled c.if-s.false c.if-s-p.true
+    repeats_part c.requires.stands c.requires.met c.requires.nameless c.in-Some.ensures c.requires.doubled c.if-s-p.true
 
 pub note_all-requires : goal.note_all-requires
 note_all-requires c = (c.requires.stands, (met_next c.requires.met refl, c.requires.nameless))

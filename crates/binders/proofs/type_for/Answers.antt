@@ -1,17 +1,19 @@
 -- `type_for` meets its contract: what the live bindings have, or else the base.
 -- Assumes nothing.
+use mathlib.Core.Path.{sym, ◌∙◌}
 use borrow.Author.Rules.{rules}
-use Rattle.binders.proofs.Scopes.{newest_found, newest_root, newest_params, live_function}
+use Rattle.binders.proofs.Scopes.{newest_found, newest_root, newest_params}
 use Rattle.binders.proofs.type_for.Goals as goal
 
-pub returns-then-found : goal.returns-then-found
-returns-then-found c = (search newest_found, search rules)
+pub returns-then-is_some : goal.returns-then-is_some
+returns-then-is_some c = (newest_found c.newest_type-found.ensures.0 (sym c.is_some.ensures ∙ c.if-is_some.true), search rules)
 
-pub returns-then-base-eq-NONE : goal.returns-then-base-eq-NONE
-returns-then-base-eq-NONE c = (search newest_root, search rules)
+pub returns-in_err-f : goal.returns-in_err-f
+returns-in_err-f c =
+    (rw c.from_residual.ensures (newest_root c.newest_type-found.ensures.0 (sym c.is_some.ensures ∙ c.if-is_some.false) c.in_err-f.was), search rules)
 
 pub type_of_param-requires : goal.type_of_param-requires
-type_of_param-requires c = search live_function
+type_of_param-requires c = c.requires.live.based _ c.in_ok-f.was
 
 pub returns : goal.returns
-returns c = (search newest_params, search rules)
+returns c = (newest_params c.newest_type-found.ensures.0 (sym c.is_some.ensures ∙ c.if-is_some.false) c.in_ok-f.was c.type_of_param.ensures, search rules)

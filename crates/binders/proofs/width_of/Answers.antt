@@ -6,5 +6,5 @@ use Rattle.binders.proofs.width_of.Goals as goal
 pub returns-then-length-le8192 : goal.returns-then-length-le8192
 returns-then-length-le8192 c = width_few _ c.if-length-le8192.true
 
-pub returns : goal.returns
-returns c = width_many _ c.if-length-le8192.false
+pub returns-else-length-le8192 : goal.returns-else-length-le8192
+returns-else-length-le8192 c = width_many _ c.if-length-le8192.false

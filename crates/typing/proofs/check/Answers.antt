@@ -8,13 +8,15 @@ pub records-requires : goal.records-requires
 records-requires c =
     rw c.new-book.ensures (record { valid = book_valid _ c.index_book-indexed.ensures.0 _ c.index_book-indexed.ensures.1 c.in_ok-n.was; tiles = book_tiles _ c.index_book-indexed.ensures.0 _ c.index_book-indexed.ensures.1 c.in_ok-n.was })
 
-pub returns-in-Passed : goal.returns-in-Passed
-returns-in-Passed c =
-    check_passed _ c.index_book-indexed.ensures.0 _ c.index_book-indexed.ensures.1 c.in_ok-n.was (rw c.new-book.ensures at c.records.ensures) c.in-Passed.is
+pub returns : goal.returns
+returns c =
+    check_passed _ c.index_book-indexed.ensures.0 _ c.index_book-indexed.ensures.1 c.in_ok-n.was (rw c.new-book.ensures at c.records.ensures) c.in_ok-records.was
 
-pub returns-in-Refused : goal.returns-in-Refused
-returns-in-Refused c =
-    check_refused _ c.index_book-indexed.ensures.0 _ c.index_book-indexed.ensures.1 c.in_ok-n.was (rw c.new-book.ensures at c.records.ensures) c.in-Refused.is
+pub returns-in_err-records : goal.returns-in_err-records
+returns-in_err-records c =
+    let p = err_from_is_err_and c.from_residual-2.result c.from_residual-2.ensures.1 in
+    rw (p.1, p.2) (check_refused _ c.index_book-indexed.ensures.0 _ c.index_book-indexed.ensures.1 c.in_ok-n.was (rw c.new-book.ensures at c.records.ensures) c.in_err-records.was)
 
 pub returns-in_err-n : goal.returns-in_err-n
-returns-in_err-n c = let p = err_from_is_err_and c.from_residual.result c.from_residual.ensures.1 in rw (p.1, p.2) (read_refused _ c.index_book-indexed.ensures.0 c.in_err-n.was)
+returns-in_err-n c =
+    let p = err_from_is_err_and c.from_residual.result c.from_residual.ensures.1 in rw (p.1, p.2) (read_refused _ c.index_book-indexed.ensures.0 c.in_err-n.was)

@@ -2,7 +2,9 @@
 -- Assumes nothing.
 use Rattle.std.proofs.Common.{refl}
 use Rattle.binders.proofs.Fitting.{known_none}
+use Rattle.typing.proofs.Orders.{rows_first}
 use Rattle.typing.proofs.sized.Goals as goal
 
-pub scoped-requires-clause-known : goal.scoped-requires-clause-known
-scoped-requires-clause-known g c = known_none _ _ _ _ refl
+pub expressions-requires : goal.expressions-requires
+expressions-requires g c =
+    record { valid = c.requires.valid; rows = rows_first c.requires.valid c.requires.tiles c.requires.doubled (known_none _ _ _ _ refl) refl refl }

@@ -1,31 +1,19 @@
--- `is_array` meets its contract: each place is the type's, one more each time.
+-- `is_array` meets its contract: each place is the type's.
 -- Assumes nothing.
 use native.Mathlib.Omega.{arith}
+use mathlib.Core.Path.{◌∙◌, refl}
+use borrow.Author.Rules.{rules}
+use Rattle.std.proofs.lemmas.Iterator.{YieldsList-from_range}
+use Rattle.std.proofs.lemmas.Iterator.Search.{all_from_yields_List}
+use Rattle.std.proofs.Common.{tests}
 use Rattle.book.specs.Tree.{type_of}
-use Rattle.shapes.proofs.Same.{gives_is, gives_other}
-use Rattle.shapes.proofs.Places.{agrees_none, agrees_next, array_all, array_not}
+use Rattle.shapes.proofs.Same.{tells_at}
+use Rattle.shapes.proofs.Places.{place_is, array_walk}
+use Rattle.shapes.proofs.Walks.{walk_all}
 use Rattle.shapes.proofs.part.is_array.Goals as goal
-
-pub loop-k-init : goal.loop-k-init
-loop-k-init c = agrees_none
-
-pub place-requires : goal.place-requires
-place-requires c =
-    record { stands = c.requires.stands; sort = tt; k_in_range = c.loop-k-test.true; n_in_range = c.requires.n_in_range_too }
-
-pub returns-then-place-element : goal.returns-then-place-element
-returns-then-place-element c =
-    array_not (type_of c.args.book.now.bytes c.args.book.now.index c.args.element) (type_of c.args.book.now.bytes c.args.book.now.index c.args.t) c.loop-k.k c.loop-k-test.true (gives_other c.place.ensures c.requires.stands_element c.if-place-element.true)
-
-pub overflow_add-k : goal.overflow_add-k
-overflow_add-k c = omega (arith, c.loop-k-test.true, c.requires.n_in_range_too)
-
-pub loop-k-smaller : goal.loop-k-smaller
-loop-k-smaller c = omega (arith, c.loop-k-test.true)
-
-pub loop-k-preserved : goal.loop-k-preserved
-loop-k-preserved c = agrees_next c.loop-k.invariant (gives_is c.place.ensures c.requires.stands_element c.if-place-element.false)
 
 pub returns : goal.returns
 returns c =
-    array_all (type_of c.args.book.now.bytes c.args.book.now.index c.args.element) c.loop-k.invariant c.requires.n_in_range c.loop-k-test.false
+    let f = place_is c.args.n (type_of c.args.book.now.bytes c.args.book.now.index c.args.t) (λ j. type_of c.args.book.now.bytes c.args.book.now.index c.args.element) in
+    all_from_yields_List f _ _ _ c.all.ensures.ran (YieldsList-from_range 0 c.args.n c.args.n refl (omega arith)) (λ x b q k. search (rules, tests, tells_at))
+    ∙ walk_all f 0 c.args.n ∙ array_walk _ _ c.args.n c.requires.n_in_range

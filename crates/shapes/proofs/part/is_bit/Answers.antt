@@ -20,16 +20,16 @@ field_at-requires c = side_lies c.requires c.mark_at.ensures {m = TS} tt c.if-ma
 pub is_unit-requires : goal.is_unit-requires
 is_unit-requires c = side_at c.requires c.mark_at.ensures {m = TS} tt c.if-mark_at-ne-TS.false {k = 0} (omega arith) c.field_at.ensures
 
-pub returns-then-not-is_unit : goal.returns-then-not-is_unit
-returns-then-not-is_unit c =
-    sym (first_fails _ c.is_unit.ensures (same_sum c.requires c.mark_at.ensures c.field_at.ensures refl one one c.if-mark_at-ne-TS.false) c.if-not-is_unit.true)
+pub returns-else-is_unit : goal.returns-else-is_unit
+returns-else-is_unit c =
+    c.if-is_unit.false ∙ sym (first_fails _ c.is_unit.ensures (same_sum c.requires c.mark_at.ensures c.field_at.ensures refl one one c.if-mark_at-ne-TS.false) c.if-is_unit.false)
 
-pub field_at-requires-2 : goal.field_at-requires-2
-field_at-requires-2 c = side_lies c.requires c.mark_at.ensures {m = TS} tt c.if-mark_at-ne-TS.false 1 (omega arith)
+pub field_at-requires-then-is_unit : goal.field_at-requires-then-is_unit
+field_at-requires-then-is_unit c = side_lies c.requires c.mark_at.ensures {m = TS} tt c.if-mark_at-ne-TS.false 1 (omega arith)
 
-pub is_unit-requires-2 : goal.is_unit-requires-2
-is_unit-requires-2 c = side_at c.requires c.mark_at.ensures {m = TS} tt c.if-mark_at-ne-TS.false {k = 1} (omega arith) c.field_at-2.ensures
+pub is_unit-requires-then-is_unit : goal.is_unit-requires-then-is_unit
+is_unit-requires-then-is_unit c = side_at c.requires c.mark_at.ensures {m = TS} tt c.if-mark_at-ne-TS.false {k = 1} (omega arith) c.field_at-then-is_unit.ensures
 
-pub returns : goal.returns
-returns c =
-    c.is_unit-2.ensures ∙ sym (first_holds _ c.is_unit.ensures (same_sum c.requires c.mark_at.ensures c.field_at.ensures c.field_at-2.ensures one one c.if-mark_at-ne-TS.false) c.if-not-is_unit.false)
+pub returns-then-is_unit : goal.returns-then-is_unit
+returns-then-is_unit c =
+    c.is_unit-then-is_unit.ensures ∙ sym (first_holds _ c.is_unit.ensures (same_sum c.requires c.mark_at.ensures c.field_at.ensures c.field_at-then-is_unit.ensures one one c.if-mark_at-ne-TS.false) c.if-is_unit.true)

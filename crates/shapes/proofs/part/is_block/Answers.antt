@@ -26,17 +26,17 @@ pub is_unit-requires : goal.is_unit-requires
 is_unit-requires c =
     side_at c.requires.stands c.mark_at.ensures {m = TS} tt c.if-mark_at-ne-TS.false {k = 0} (omega arith) c.field_at.ensures
 
-pub returns-then-not-is_unit : goal.returns-then-not-is_unit
-returns-then-not-is_unit c =
-    sym (first_fails _ c.is_unit.ensures (same_sum c.requires.stands c.mark_at.ensures c.field_at.ensures refl one (power (type_of c.args.book.now.bytes c.args.book.now.index c.args.element) (top_of c.args.n)) c.if-mark_at-ne-TS.false) c.if-not-is_unit.true)
+pub returns-else-is_unit : goal.returns-else-is_unit
+returns-else-is_unit c =
+    c.if-is_unit.false ∙ sym (first_fails _ c.is_unit.ensures (same_sum c.requires.stands c.mark_at.ensures c.field_at.ensures refl one (power (type_of c.args.book.now.bytes c.args.book.now.index c.args.element) (top_of c.args.n)) c.if-mark_at-ne-TS.false) c.if-is_unit.false)
 
-pub field_at-requires-2 : goal.field_at-requires-2
-field_at-requires-2 c = side_lies c.requires.stands c.mark_at.ensures {m = TS} tt c.if-mark_at-ne-TS.false 1 (omega arith)
+pub field_at-requires-then-is_unit : goal.field_at-requires-then-is_unit
+field_at-requires-then-is_unit c = side_lies c.requires.stands c.mark_at.ensures {m = TS} tt c.if-mark_at-ne-TS.false 1 (omega arith)
 
 pub halved-requires : goal.halved-requires
 halved-requires c =
-    record { stands = side_at c.requires.stands c.mark_at.ensures {m = TS} tt c.if-mark_at-ne-TS.false {k = 1} (omega arith) c.field_at-2.ensures; among = c.requires.among }
+    record { stands = side_at c.requires.stands c.mark_at.ensures {m = TS} tt c.if-mark_at-ne-TS.false {k = 1} (omega arith) c.field_at-then-is_unit.ensures; among = c.requires.among }
 
-pub returns : goal.returns
-returns c =
-    power_at (top_of c.args.n) _ c.halved.ensures c.requires.stands_element ∙ sym (first_holds _ c.is_unit.ensures (same_sum c.requires.stands c.mark_at.ensures c.field_at.ensures c.field_at-2.ensures one (power (type_of c.args.book.now.bytes c.args.book.now.index c.args.element) (top_of c.args.n)) c.if-mark_at-ne-TS.false) c.if-not-is_unit.false)
+pub returns-then-is_unit : goal.returns-then-is_unit
+returns-then-is_unit c =
+    c.eq.ensures ∙ power_at (top_of c.args.n) _ c.halved.ensures c.requires.stands_element ∙ sym (first_holds _ c.is_unit.ensures (same_sum c.requires.stands c.mark_at.ensures c.field_at.ensures c.field_at-then-is_unit.ensures one (power (type_of c.args.book.now.bytes c.args.book.now.index c.args.element) (top_of c.args.n)) c.if-mark_at-ne-TS.false) c.if-is_unit.true)

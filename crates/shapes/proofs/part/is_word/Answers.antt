@@ -7,16 +7,11 @@ use Rattle.shapes.proofs.Same.{gives_stands}
 use Rattle.shapes.proofs.Halves.{power_none, power_some}
 use Rattle.shapes.proofs.part.is_word.Goals as goal
 
-pub halved-bit-requires : goal.halved-bit-requires
-halved-bit-requires c = record { stands = c.requires.stands; among = c.requires.among }
-
-pub returns-then-bit : goal.returns-then-bit
-returns-then-bit c =
-    power_none (top_of c.args.bits) (type_of c.args.book.now.bytes c.args.book.now.index c.args.t) c.halved-bit.ensures two c.if-bit.true
-
 pub is_bit-requires : goal.is_bit-requires
-is_bit-requires c = gives_stands c.halved-bit.ensures c.if-bit.false
+is_bit-requires c = gives_stands c.in-Some.ensures
 
-pub returns : goal.returns
-returns c =
-    power_some (top_of c.args.bits) (type_of c.args.book.now.bytes c.args.book.now.index c.args.t) c.halved-bit.ensures two c.if-bit.false c.is_bit.ensures
+pub returns-in-Some : goal.returns-in-Some
+returns-in-Some c = power_some (top_of c.args.bits) (type_of c.args.book.now.bytes c.args.book.now.index c.args.t) two c.in-Some.ensures c.is_bit.ensures
+
+pub returns-in-None : goal.returns-in-None
+returns-in-None c = power_none (top_of c.args.bits) (type_of c.args.book.now.bytes c.args.book.now.index c.args.t) two c.in-None.ensures

@@ -1,32 +1,22 @@
--- `are_all` meets its contract: a loop over the parts.
+-- `are_all` meets its contract: each part is asked.
 -- Assumes nothing.
+use Prim.Native.Nat.{ℕ}
+use mathlib.Core.Bool.{Bool}
 use native.Mathlib.Omega.{arith}
-use Rattle.shapes.proofs.Constructs.{is_test}
-use Rattle.shapes.proofs.Rows.{all_walk, row_near}
-use Rattle.shapes.proofs.Walks.{differ, equal, left_end, left_on, left_start, left_stop}
+use mathlib.Core.Path.{◌∙◌, refl}
+use borrow.Author.Rules.{rules}
+use Rattle.std.proofs.Common.{tests}
+use Rattle.std.proofs.lemmas.Iterator.{YieldsList-from_range}
+use Rattle.std.proofs.lemmas.Iterator.Search.{all_from_yields_List}
+use Rattle.simplicity.specs.Types.{same}
+use Rattle.book.specs.Tree.{type_of}
+use Rattle.shapes.proofs.Constructs.{is_tells}
+use Rattle.shapes.proofs.Rows.{all_walk, part_at}
+use Rattle.shapes.proofs.Walks.{walk_all}
 use Rattle.shapes.proofs.whole.are_all.Goals as goal
 
-pub loop-k-init : goal.loop-k-init
-loop-k-init c = left_start (all_walk _ _ _ _ _ _ _)
-
-pub overflow_mul-span : goal.overflow_mul-span
-overflow_mul-span c = omega (arith, row_near c.requires.elements c.loop-k-test.true)
-
-pub overflow_add-span : goal.overflow_add-span
-overflow_add-span c = omega (arith, c.requires.elements.low, row_near c.requires.elements c.loop-k-test.true)
-
-pub part_type-requires : goal.part_type-requires
-part_type-requires c =
-    let both = c.requires.elements.each _ c.loop-k-test.true in
-    record { lies = both.0; stands = both.1 }
-
-pub returns-then-part_type-t : goal.returns-then-part_type-t
-returns-then-part_type-t c =
-    left_stop c.loop-k.invariant c.loop-k-test.true (differ (is_test c.part_type.ensures c.requires.stands) c.if-part_type-t.true)
-
-pub loop-k-preserved : goal.loop-k-preserved
-loop-k-preserved c =
-    left_on c.loop-k.invariant c.loop-k-test.true (equal (is_test c.part_type.ensures c.requires.stands) c.if-part_type-t.false)
-
 pub returns : goal.returns
-returns c = left_end c.loop-k.invariant c.loop-k-test.false
+returns c =
+    let f : ℕ → Bool = λ j. same (part_at c.args.book.now.bytes c.args.book.now.index c.args.r c.args.span.stride c.args.span.from j) (type_of c.args.book.now.bytes c.args.book.now.index c.args.t) in
+    all_from_yields_List f _ _ _ c.all.ensures.ran (YieldsList-from_range 0 c.args.span.count c.args.span.count refl (omega arith)) (λ x b q k. (search (rules, tests), search (rules, tests, is_tells)))
+    ∙ walk_all f 0 c.args.span.count ∙ all_walk _ _ _ _ _ _ _

@@ -1,39 +1,23 @@
--- `are_taken` meets its contract: a loop over the arguments.
+-- `are_taken` meets its contract: each argument is asked.
 -- Assumes nothing.
+use Prim.Native.Nat.{ℕ, ◌+◌, ◌*◌}
+use mathlib.Core.Bool.{Bool}
 use native.Mathlib.Omega.{arith}
-use Rattle.shapes.proofs.Constructs.{is_test}
-use Rattle.shapes.proofs.Functions.{argument, param_at, param_lies}
+use mathlib.Core.Path.{◌∙◌, refl}
+use borrow.Author.Rules.{rules}
+use Rattle.std.proofs.Common.{tests}
+use Rattle.std.proofs.lemmas.Iterator.{YieldsList-from_range}
+use Rattle.std.proofs.lemmas.Iterator.Search.{all_from_yields_List}
+use Rattle.simplicity.specs.Types.{same}
+use Rattle.book.specs.Index.{field}
+use Rattle.book.specs.Tree.{expr_of, type_of}
+use Rattle.shapes.specs.Shapes.{type_is}
 use Rattle.shapes.proofs.Rows.{taken_walk}
-use Rattle.shapes.proofs.Walks.{differ, equal, left_end, left_on, left_start, left_stop}
+use Rattle.shapes.proofs.Walks.{walk_all}
 use Rattle.shapes.proofs.whole.are_taken.Goals as goal
 
-pub loop-k-init : goal.loop-k-init
-loop-k-init c = left_start (taken_walk _ _ _ _ _)
-
-pub overflow_add-k : goal.overflow_add-k
-overflow_add-k c = omega (arith, c.requires.elements.few)
-
-pub part_type-requires : goal.part_type-requires
-part_type-requires c =
-    let both = argument c.requires.elements c.loop-k-test.true in
-    record { lies = both.0; stands = both.1 }
-
-pub overflow_mul-k : goal.overflow_mul-k
-overflow_mul-k c = omega (arith, c.requires.elements.few)
-
-pub overflow_add-k-in-loop-k : goal.overflow_add-k-in-loop-k
-overflow_add-k-in-loop-k c = omega (arith, c.requires.elements.few)
-
-pub field_at-requires : goal.field_at-requires
-field_at-requires c = param_lies c.requires.stands _ c.requires.n_is c.loop-k-test.true
-
-pub returns-then-part_type-field_at : goal.returns-then-part_type-field_at
-returns-then-part_type-field_at c =
-    left_stop c.loop-k.invariant c.loop-k-test.true (rw (← c.field_at.ensures) (differ (is_test c.part_type.ensures (param_at c.requires.stands _ c.requires.n_is c.loop-k-test.true c.field_at.ensures)) c.if-part_type-field_at.true))
-
-pub loop-k-preserved : goal.loop-k-preserved
-loop-k-preserved c =
-    left_on c.loop-k.invariant c.loop-k-test.true (rw (← c.field_at.ensures) (equal (is_test c.part_type.ensures (param_at c.requires.stands _ c.requires.n_is c.loop-k-test.true c.field_at.ensures)) c.if-part_type-field_at.false))
-
 pub returns : goal.returns
-returns c = left_end c.loop-k.invariant c.loop-k-test.false
+returns c =
+    let f : ℕ → Bool = λ j. same (type_is (expr_of c.args.book.now.bytes c.args.book.now.index (field c.args.book.now.bytes c.args.book.now.index c.args.r (3 + j)))) (type_of c.args.book.now.bytes c.args.book.now.index (field c.args.book.now.bytes c.args.book.now.index c.args.f (3 + 2 * j))) in
+    all_from_yields_List f _ _ _ c.all.ensures.ran (YieldsList-from_range 0 c.args.n c.args.n refl (omega arith)) (λ x b q k. search (rules, tests))
+    ∙ walk_all f 0 c.args.n ∙ taken_walk _ _ _ _ _

@@ -3,7 +3,7 @@
 use native.Mathlib.Omega.{arith}
 use Rattle.shapes.proofs.Constructs.{names, typed_lies}
 use Rattle.shapes.proofs.Functions.{array_fold_lem, count_lies, fold_few, fold_function, fold_is, fold_size, folding, param_at, param_lies}
-use Rattle.shapes.proofs.Walks.{fails, no, passes, tells, yes}
+use Rattle.shapes.proofs.Walks.{passes, stops, tells, yes}
 use Rattle.shapes.proofs.whole.array_fold.Goals as goal
 
 pub field_at-f-requires : goal.field_at-f-requires
@@ -30,13 +30,13 @@ is_array-requires c =
     let both = fold_size c.requires c.field_at-size.ensures in
     record { stands = c.part_type-array.ensures.0; stands_element = param_at (fold_function (array_fold_lem c.requires) c.field_at-f.ensures) 0 c.field_at.ensures (omega (arith, c.if-field_at-ne2.false)) c.field_at-2.ensures; n_in_range = both.0; n_in_range_too = both.1 }
 
-pub returns-then-not-is_array : goal.returns-then-not-is_array
-returns-then-not-is_array c =
-    fails (fold_is (array_fold_lem c.requires) c.field_at-f.ensures c.field_at.ensures c.if-field_at-ne2.false c.field_at-size.ensures c.field_at-2.ensures c.part_type-array.ensures) (no c.is_array.ensures c.if-not-is_array.true)
+pub returns-else-is_array : goal.returns-else-is_array
+returns-else-is_array c =
+    stops (fold_is (array_fold_lem c.requires) c.field_at-f.ensures c.field_at.ensures c.if-field_at-ne2.false c.field_at-size.ensures c.field_at-2.ensures c.part_type-array.ensures) c.is_array.ensures c.if-is_array.false
 
 pub is_accumulator-requires : goal.is_accumulator-requires
 is_accumulator-requires c = folding (array_fold_lem c.requires) c.field_at-f.ensures c.field_at.ensures c.if-field_at-ne2.false
 
-pub returns : goal.returns
-returns c =
-    tells (passes (fold_is (array_fold_lem c.requires) c.field_at-f.ensures c.field_at.ensures c.if-field_at-ne2.false c.field_at-size.ensures c.field_at-2.ensures c.part_type-array.ensures) (yes c.is_array.ensures c.if-not-is_array.false)) c.is_accumulator.ensures
+pub returns-then-is_array : goal.returns-then-is_array
+returns-then-is_array c =
+    tells (passes (fold_is (array_fold_lem c.requires) c.field_at-f.ensures c.field_at.ensures c.if-field_at-ne2.false c.field_at-size.ensures c.field_at-2.ensures c.part_type-array.ensures) (yes c.is_array.ensures c.if-is_array.true)) c.is_accumulator.ensures

@@ -3,8 +3,8 @@
 use native.Mathlib.Omega.{arith}
 use Rattle.shapes.proofs.Constructs.{is_test, names, typed_lies, typed_stands}
 use Rattle.shapes.proofs.Functions.{count_lies, loop_few, loop_function, loop_power, looping, param_at, param_lies, result_lies, result_stands}
-use Rattle.shapes.proofs.Same.{gives_at, types_same}
-use Rattle.shapes.proofs.Walks.{differ, equal, fails, no, passes, tells, yes}
+use Rattle.shapes.proofs.Same.{tells_at, types_same}
+use Rattle.shapes.proofs.Walks.{differ, equal, fails, no, passes, stops, tells, yes}
 use Rattle.shapes.proofs.whole.for_while.Goals as goal
 
 pub field_at-f-requires : goal.field_at-f-requires
@@ -53,13 +53,13 @@ returns-then-part_type-context c =
 pub side-requires : goal.side-requires
 side-requires c = record { stands = typed_stands c.requires; sort = tt; k_in_range = omega arith }
 
-pub returns-then-side-accumulator : goal.returns-then-side-accumulator
-returns-then-side-accumulator c =
-    let l = looping c.requires c.field_at-f.ensures c.field_at.ensures c.if-field_at-ne3.false c.field_at-width.ensures c.field_at-accumulator.ensures c.field_at-context.ensures c.field_at-counter.ensures in fails (passes (passes (passes l.tests (yes c.is_word.ensures c.if-not-is_word.false)) (equal (is_test c.part_type.ensures l.accumulator) c.if-part_type-accumulator.false)) (equal (is_test c.part_type-2.ensures l.context) c.if-part_type-context.false)) (differ (gives_at c.side.ensures l.accumulator) c.if-side-accumulator.true)
+pub returns-else-eq : goal.returns-else-eq
+returns-else-eq c =
+    let l = looping c.requires c.field_at-f.ensures c.field_at.ensures c.if-field_at-ne3.false c.field_at-width.ensures c.field_at-accumulator.ensures c.field_at-context.ensures c.field_at-counter.ensures in stops (passes (passes (passes l.tests (yes c.is_word.ensures c.if-not-is_word.false)) (equal (is_test c.part_type.ensures l.accumulator) c.if-part_type-accumulator.false)) (equal (is_test c.part_type-2.ensures l.context) c.if-part_type-context.false)) (tells_at c.side.ensures l.accumulator c.eq.ensures) c.if-eq.false
 
-pub field_at-requires-2 : goal.field_at-requires-2
-field_at-requires-2 c = result_lies (loop_function c.requires c.field_at-f.ensures)
+pub field_at-requires-then-eq : goal.field_at-requires-then-eq
+field_at-requires-then-eq c = result_lies (loop_function c.requires c.field_at-f.ensures)
 
-pub returns : goal.returns
-returns c =
-    let l = looping c.requires c.field_at-f.ensures c.field_at.ensures c.if-field_at-ne3.false c.field_at-width.ensures c.field_at-accumulator.ensures c.field_at-context.ensures c.field_at-counter.ensures in tells (passes (passes (passes (passes l.tests (yes c.is_word.ensures c.if-not-is_word.false)) (equal (is_test c.part_type.ensures l.accumulator) c.if-part_type-accumulator.false)) (equal (is_test c.part_type-2.ensures l.context) c.if-part_type-context.false)) (equal (gives_at c.side.ensures l.accumulator) c.if-side-accumulator.false)) (rw c.field_at-2.ensures (types_same (result_stands (loop_function c.requires c.field_at-f.ensures)) (typed_stands c.requires)))
+pub returns-then-eq : goal.returns-then-eq
+returns-then-eq c =
+    let l = looping c.requires c.field_at-f.ensures c.field_at.ensures c.if-field_at-ne3.false c.field_at-width.ensures c.field_at-accumulator.ensures c.field_at-context.ensures c.field_at-counter.ensures in tells (passes (passes (passes (passes l.tests (yes c.is_word.ensures c.if-not-is_word.false)) (equal (is_test c.part_type.ensures l.accumulator) c.if-part_type-accumulator.false)) (equal (is_test c.part_type-2.ensures l.context) c.if-part_type-context.false)) (yes (tells_at c.side.ensures l.accumulator c.eq.ensures) c.if-eq.true)) (rw c.field_at-then-eq.ensures (types_same (result_stands (loop_function c.requires c.field_at-f.ensures)) (typed_stands c.requires)))

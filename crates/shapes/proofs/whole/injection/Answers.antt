@@ -1,7 +1,7 @@
 -- `injection` meets its contract: the side and the part's type are one record's.
 -- Assumes nothing.
 use Rattle.shapes.proofs.Constructs.{injection_is, injection_part, typed_stands}
-use Rattle.shapes.proofs.Same.{gives_at}
+use Rattle.shapes.proofs.Same.{tells_at}
 use Rattle.shapes.proofs.Walks.{tells}
 use Rattle.shapes.proofs.whole.injection.Goals as goal
 
@@ -15,4 +15,4 @@ part_type-requires c =
 
 pub returns : goal.returns
 returns c =
-    tells (injection_is _ c.requires.declares c.requires.k_in_range c.part_type.ensures) (gives_at c.side.ensures c.part_type.ensures.0)
+    tells (injection_is _ c.requires.declares c.requires.k_in_range c.part_type.ensures) (tells_at c.side.ensures c.part_type.ensures.0 c.eq.ensures)

@@ -4,7 +4,7 @@ use native.Mathlib.Omega.{arith}
 use Rattle.shapes.proofs.Constructs.{typed_lies, typed_stands}
 use Rattle.shapes.proofs.Functions.{jet_bits, jet_few, jet_is, jet_number, jet_result, jet_some, jet_word}
 use Rattle.shapes.proofs.Rows.{span_row}
-use Rattle.shapes.proofs.Walks.{fails, no, passes, tells, yes}
+use Rattle.shapes.proofs.Walks.{passes, stops, tells, yes}
 use Rattle.shapes.proofs.whole.jet.Goals as goal
 
 pub span_of-span-requires : goal.span_of-span-requires
@@ -32,13 +32,13 @@ pub are_words-requires : goal.are_words-requires
 are_words-requires c =
     record { elements = span_row c.requires.marked tt c.span_of-span.ensures; among = jet_word c.requires c.field_at.ensures c.jet_at-jet.ensures }
 
-pub returns-then-not-are_words : goal.returns-then-not-are_words
-returns-then-not-are_words c =
-    fails (jet_is c.requires c.field_at.ensures c.jet_at-jet.ensures c.field_at-2.ensures c.if-field_at-jet.false c.span_of-span.ensures) (no c.are_words.ensures c.if-not-are_words.true)
+pub returns-else-are_words : goal.returns-else-are_words
+returns-else-are_words c =
+    stops (jet_is c.requires c.field_at.ensures c.jet_at-jet.ensures c.field_at-2.ensures c.if-field_at-jet.false c.span_of-span.ensures) c.are_words.ensures c.if-are_words.false
 
 pub is_result-requires : goal.is_result-requires
 is_result-requires c = record { stands = typed_stands c.requires; among = jet_result c.requires c.field_at.ensures c.jet_at-jet.ensures }
 
-pub returns : goal.returns
-returns c =
-    tells (passes (jet_is c.requires c.field_at.ensures c.jet_at-jet.ensures c.field_at-2.ensures c.if-field_at-jet.false c.span_of-span.ensures) (yes c.are_words.ensures c.if-not-are_words.false)) c.is_result.ensures
+pub returns-then-are_words : goal.returns-then-are_words
+returns-then-are_words c =
+    tells (passes (jet_is c.requires c.field_at.ensures c.jet_at-jet.ensures c.field_at-2.ensures c.if-field_at-jet.false c.span_of-span.ensures) (yes c.are_words.ensures c.if-are_words.true)) c.is_result.ensures

@@ -3,7 +3,7 @@
 use native.Mathlib.Omega.{arith}
 use Rattle.shapes.proofs.Constructs.{names, typed_lies}
 use Rattle.shapes.proofs.Functions.{count_lies, fold_bound, fold_few, fold_function, fold_is, folding, list_fold_lem, param_at, param_lies}
-use Rattle.shapes.proofs.Walks.{fails, no, passes, tells, yes}
+use Rattle.shapes.proofs.Walks.{passes, stops, tells, yes}
 use Rattle.shapes.proofs.whole.list_fold.Goals as goal
 
 pub field_at-f-requires : goal.field_at-f-requires
@@ -29,13 +29,13 @@ pub is_list-requires : goal.is_list-requires
 is_list-requires c =
     record { stands = c.part_type-list.ensures.0; stands_element = param_at (fold_function (list_fold_lem c.requires) c.field_at-f.ensures) 0 c.field_at.ensures (omega (arith, c.if-field_at-ne2.false)) c.field_at-2.ensures; list_bound = fold_bound c.requires c.field_at-bound.ensures }
 
-pub returns-then-not-is_list : goal.returns-then-not-is_list
-returns-then-not-is_list c =
-    fails (fold_is (list_fold_lem c.requires) c.field_at-f.ensures c.field_at.ensures c.if-field_at-ne2.false c.field_at-bound.ensures c.field_at-2.ensures c.part_type-list.ensures) (no c.is_list.ensures c.if-not-is_list.true)
+pub returns-else-is_list : goal.returns-else-is_list
+returns-else-is_list c =
+    stops (fold_is (list_fold_lem c.requires) c.field_at-f.ensures c.field_at.ensures c.if-field_at-ne2.false c.field_at-bound.ensures c.field_at-2.ensures c.part_type-list.ensures) c.is_list.ensures c.if-is_list.false
 
 pub is_accumulator-requires : goal.is_accumulator-requires
 is_accumulator-requires c = folding (list_fold_lem c.requires) c.field_at-f.ensures c.field_at.ensures c.if-field_at-ne2.false
 
-pub returns : goal.returns
-returns c =
-    tells (passes (fold_is (list_fold_lem c.requires) c.field_at-f.ensures c.field_at.ensures c.if-field_at-ne2.false c.field_at-bound.ensures c.field_at-2.ensures c.part_type-list.ensures) (yes c.is_list.ensures c.if-not-is_list.false)) c.is_accumulator.ensures
+pub returns-then-is_list : goal.returns-then-is_list
+returns-then-is_list c =
+    tells (passes (fold_is (list_fold_lem c.requires) c.field_at-f.ensures c.field_at.ensures c.if-field_at-ne2.false c.field_at-bound.ensures c.field_at-2.ensures c.part_type-list.ensures) (yes c.is_list.ensures c.if-is_list.true)) c.is_accumulator.ensures

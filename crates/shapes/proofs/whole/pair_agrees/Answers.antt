@@ -2,12 +2,13 @@
 -- Assumes nothing.
 use mathlib.Core.Path.{refl}
 use native.Mathlib.Omega.{arith}
+use borrow.Author.Tests.{ne_eqb}
 use Rattle.book.proofs.Standing.{stands_begins}
 use Rattle.book.specs.Format.{VP}
 use Rattle.shapes.proofs.Constructs.{test_is}
 use Rattle.shapes.proofs.Marks.{pair_is, pair_not, pair_type, value_lies, value_names}
 use Rattle.shapes.proofs.Sides.{side_at, side_lies}
-use Rattle.shapes.proofs.Walks.{differ, equal, fails, passes, tells}
+use Rattle.shapes.proofs.Walks.{equal, passes, stops, tells}
 use Rattle.shapes.proofs.whole.pair_agrees.Goals as goal
 
 pub mark_at-requires : goal.mark_at-requires
@@ -24,18 +25,18 @@ pub value_type-requires : goal.value_type-requires
 value_type-requires c =
     record { lies = value_lies c.requires.stands refl VP c.requires.mark_is 1 tt; stands = value_names c.requires.stands refl VP c.requires.mark_is 1 tt tt }
 
-pub returns-then-field_at-value_type : goal.returns-then-field_at-value_type
-returns-then-field_at-value_type c =
-    let s = pair_type c.requires.stands c.requires.mark_is c.requires.t_is in fails (pair_is c.requires.stands c.requires.mark_is c.requires.t_is c.mark_at.ensures c.if-mark_at-ne-TP.false c.field_at.ensures refl) (differ (test_is (side_at s c.mark_at.ensures tt c.if-mark_at-ne-TP.false (omega arith) c.field_at.ensures) c.value_type.ensures) c.if-field_at-value_type.true)
+pub returns-else-field_at-value_type : goal.returns-else-field_at-value_type
+returns-else-field_at-value_type c =
+    let s = pair_type c.requires.stands c.requires.mark_is c.requires.t_is in stops (pair_is c.requires.stands c.requires.mark_is c.requires.t_is c.mark_at.ensures c.if-mark_at-ne-TP.false c.field_at.ensures refl) (test_is (side_at s c.mark_at.ensures tt c.if-mark_at-ne-TP.false (omega arith) c.field_at.ensures) c.value_type.ensures) (ne_eqb _ _ c.if-field_at-value_type.false)
 
-pub field_at-requires-2 : goal.field_at-requires-2
-field_at-requires-2 c =
+pub field_at-requires-then-field_at-value_type : goal.field_at-requires-then-field_at-value_type
+field_at-requires-then-field_at-value_type c =
     side_lies (pair_type c.requires.stands c.requires.mark_is c.requires.t_is) c.mark_at.ensures tt c.if-mark_at-ne-TP.false 1 (omega arith)
 
-pub value_type-requires-2 : goal.value_type-requires-2
-value_type-requires-2 c =
+pub value_type-requires-then-field_at-value_type : goal.value_type-requires-then-field_at-value_type
+value_type-requires-then-field_at-value_type c =
     record { lies = value_lies c.requires.stands refl VP c.requires.mark_is 2 tt; stands = value_names c.requires.stands refl VP c.requires.mark_is 2 tt tt }
 
-pub returns : goal.returns
-returns c =
-    let s = pair_type c.requires.stands c.requires.mark_is c.requires.t_is in tells (passes (pair_is c.requires.stands c.requires.mark_is c.requires.t_is c.mark_at.ensures c.if-mark_at-ne-TP.false c.field_at.ensures c.field_at-2.ensures) (equal (test_is (side_at s c.mark_at.ensures tt c.if-mark_at-ne-TP.false (omega arith) c.field_at.ensures) c.value_type.ensures) c.if-field_at-value_type.false)) (test_is (side_at s c.mark_at.ensures tt c.if-mark_at-ne-TP.false (omega arith) c.field_at-2.ensures) c.value_type-2.ensures)
+pub returns-then-field_at-value_type : goal.returns-then-field_at-value_type
+returns-then-field_at-value_type c =
+    let s = pair_type c.requires.stands c.requires.mark_is c.requires.t_is in tells (passes (pair_is c.requires.stands c.requires.mark_is c.requires.t_is c.mark_at.ensures c.if-mark_at-ne-TP.false c.field_at.ensures c.field_at-then-field_at-value_type.ensures) (equal (test_is (side_at s c.mark_at.ensures tt c.if-mark_at-ne-TP.false (omega arith) c.field_at.ensures) c.value_type.ensures) c.if-field_at-value_type.true)) (test_is (side_at s c.mark_at.ensures tt c.if-mark_at-ne-TP.false (omega arith) c.field_at-then-field_at-value_type.ensures) c.value_type-then-field_at-value_type.ensures)

@@ -1,7 +1,7 @@
 -- `unwrap` meets its contract: the part's side and the declared type are one record's.
 -- Assumes nothing.
 use Rattle.shapes.proofs.Constructs.{typed_stands, unwrap_is, unwrap_part}
-use Rattle.shapes.proofs.Same.{gives_at}
+use Rattle.shapes.proofs.Same.{tells_at}
 use Rattle.shapes.proofs.Walks.{tells}
 use Rattle.shapes.proofs.whole.unwrap.Goals as goal
 
@@ -15,4 +15,4 @@ side-requires c = record { stands = c.part_type-part.ensures.0; sort = tt; k_in_
 
 pub returns : goal.returns
 returns c =
-    tells (unwrap_is _ c.requires.declares c.requires.k_in_range c.part_type-part.ensures) (gives_at c.side.ensures (typed_stands c.requires.declares))
+    tells (unwrap_is _ c.requires.declares c.requires.k_in_range c.part_type-part.ensures) (tells_at c.side.ensures (typed_stands c.requires.declares) c.eq.ensures)

@@ -7,7 +7,7 @@ use Rattle.book.proofs.Standing.{stands_begins}
 use Rattle.book.specs.Format.{VL, VR, VU}
 use Rattle.shapes.proofs.Declared.{value_declares}
 use Rattle.shapes.proofs.Marks.{pair_rest, value_left, value_lies, value_names, value_right, value_type_stands, value_unit}
-use Rattle.shapes.proofs.Same.{gives_at}
+use Rattle.shapes.proofs.Same.{tells_at}
 use Rattle.shapes.proofs.Walks.{tells}
 use Rattle.shapes.proofs.whole.value_agrees.Goals as goal
 
@@ -45,8 +45,8 @@ returns-in-4 c = tells (value_unit c.requires c.mark_at.ensures c.field_at-t.ens
 
 pub returns-in-5 : goal.returns-in-5
 returns-in-5 c =
-    tells (value_left c.requires c.mark_at.ensures c.field_at-t.ensures c.value_type.ensures c.in-5.is) (gives_at c.side.ensures c.value_type.ensures.0)
+    tells (value_left c.requires c.mark_at.ensures c.field_at-t.ensures c.value_type.ensures c.in-5.is) (tells_at c.side.ensures c.value_type.ensures.0 c.eq.ensures)
 
 pub returns-in-6 : goal.returns-in-6
 returns-in-6 c =
-    tells (value_right c.requires c.mark_at.ensures c.field_at-t.ensures c.value_type-in-6.ensures c.in-6.is) (gives_at c.side-in-6.ensures c.value_type-in-6.ensures.0)
+    tells (value_right c.requires c.mark_at.ensures c.field_at-t.ensures c.value_type-in-6.ensures c.in-6.is) (tells_at c.side-in-6.ensures c.value_type-in-6.ensures.0 c.eq-in-6.ensures)

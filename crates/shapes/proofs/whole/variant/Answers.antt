@@ -1,6 +1,6 @@
 -- `variant` meets its contract: all places, and then the payload's.
 -- Assumes nothing.
-use mathlib.Core.Path.{◌∙◌, refl, sym}
+use mathlib.Core.Path.{◌∙◌, refl}
 use Rattle.shapes.proofs.Constructs.{at_none, at_some, typed_lies, typed_stands, variant_is, variant_most, variant_under}
 use Rattle.shapes.proofs.Rows.{span_row}
 use Rattle.shapes.proofs.Same.{gives_none, gives_some, gives_stands}
@@ -23,18 +23,17 @@ returns-then-not-has_places c =
 pub field_at-requires : goal.field_at-requires
 field_at-requires c = typed_lies c.requires 1 tt
 
-pub place-payload-requires : goal.place-payload-requires
-place-payload-requires c =
+pub place-requires : goal.place-requires
+place-requires c =
     record { stands = typed_stands c.requires; sort = tt; k_in_range = variant_under c.requires c.field_at-n.ensures c.field_at.ensures; n_in_range = variant_most c.requires c.field_at-n.ensures }
 
-pub returns-then-payload : goal.returns-then-payload
-returns-then-payload c =
-    fails (passes (variant_is c.requires c.field_at-n.ensures c.field_at.ensures c.span_of-span.ensures) (yes c.has_places.ensures c.if-not-has_places.false)) (at_none _ (gives_none c.place-payload.ensures c.if-payload.true))
-
 pub is_row-requires : goal.is_row-requires
-is_row-requires c =
-    record { stands = gives_stands c.place-payload.ensures c.if-payload.false; elements = span_row c.requires.marked tt c.span_of-span.ensures }
+is_row-requires c = record { stands = gives_stands c.in-Some.ensures; elements = span_row c.requires.marked tt c.span_of-span.ensures }
 
-pub returns : goal.returns
-returns c =
-    tells (passes (variant_is c.requires c.field_at-n.ensures c.field_at.ensures c.span_of-span.ensures) (yes c.has_places.ensures c.if-not-has_places.false)) (c.is_row.ensures ∙ sym (at_some _ (gives_some c.place-payload.ensures c.if-payload.false)))
+pub returns-in-Some : goal.returns-in-Some
+returns-in-Some c =
+    tells (passes (variant_is c.requires c.field_at-n.ensures c.field_at.ensures c.span_of-span.ensures) (yes c.has_places.ensures c.if-not-has_places.false)) (c.is_row.ensures ∙ at_some _ (gives_some c.in-Some.ensures))
+
+pub returns-in-None : goal.returns-in-None
+returns-in-None c =
+    fails (passes (variant_is c.requires c.field_at-n.ensures c.field_at.ensures c.span_of-span.ensures) (yes c.has_places.ensures c.if-not-has_places.false)) (at_none _ (gives_none c.in-None.ensures))

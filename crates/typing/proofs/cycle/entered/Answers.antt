@@ -10,5 +10,5 @@ mark_at-requires c = stands_begins c.requires.stands
 pub returns-then-mark_at-eq-SA : goal.returns-then-mark_at-eq-SA
 returns-then-mark_at-eq-SA c = after_assign _ _ _ _ c.mark_at.ensures c.if-mark_at-eq-SA.true
 
-pub returns : goal.returns
-returns c = after_does _ _ _ _ c.mark_at.ensures c.if-mark_at-eq-SA.false
+pub returns-else-mark_at-eq-SA : goal.returns-else-mark_at-eq-SA
+returns-else-mark_at-eq-SA c = after_does _ _ _ _ c.mark_at.ensures c.if-mark_at-eq-SA.false
