@@ -12,10 +12,9 @@ use lib.Dec.{eqb}
 use lib.ListN.{get_or}
 use Rattle.laws.specs.Table.{pick, below, some, true_false}
 use Rattle.book.specs.Format.{word_at, kind_of, TYPE, TU}
-use Rattle.book.specs.Read.{mark_at, kind_at, total_at, field_at, end_at, alike, repeats}
+use Rattle.book.specs.Read.{mark_at, kind_at, total_at, field_at, alike, repeats}
 use Rattle.book.specs.Ready.{Framed, Rows, chain_of, Reaches, here, later, Chained}
 use Rattle.book.proofs.Alikes.{two_fields, first_field, second_field, repeats_some}
-use Rattle.book.proofs.Frames.{field_within}
 use Rattle.book.proofs.Picks.{both_true, not_true}
 use Rattle.book.proofs.Unlike.{letters_same, marks_same, kinds_same, none_some, some_false}
 
@@ -45,23 +44,6 @@ module _ (b : List ℕ) (p : ℕ) where
   pub chain_two : (mark_at b p ≡ TU → ⊥) → 4096 + key % 1024 ≡ chain_of b p
   unfolding chain_of
   chain_two n = rw (ne_eqb (mark_at b p) TU n)
-
-  -- what the code answers for the chain of a type, by its mark m and its fields, which lie in its record
-  abbrev Begins : ℕ → Type 0
-  Begins n = (n ≡ chain_of b p) × (n < 5120)
-
-  module _ (m : ℕ) (is : m ≡ mark_at b p) where
-    pub begins_none : m ≡ TU → Begins 4096
-    begins_none e = (chain_none (sym is ∙ e), omega arith)
-
-    module _ (n : m ≡ TU → ⊥) where
-      pub begins_two : (f s : ℕ) → f ≡ word_at b (p + 2) → s ≡ word_at b (p + 4) → Begins (4096 + (67 * f + 2 * s + m) % 1024)
-      begins_two f s e q =
-          let k : 4096 + (67 * f + 2 * s + m) % 1024 ≡ chain_of b p = rw (e, q, is) (chain_two (λ z. n (is ∙ z))) in
-          (k, omega (arith, chain_within.1))
-
-      pub two_within : kind_of m ≡ TYPE → p + 6 ≤ end_at b p
-      two_within k = let t = two_fields b p m is k n in omega (arith, field_within b p 1 (rw t (omega arith)))
 
 -- alike types have the same fields
 same_fields : (b : List ℕ) (p q : ℕ) → alike b p q ≡ true → total_at b p ≡ 2 → (field_at b p 0 ≡ field_at b q 0) × (field_at b p 1 ≡ field_at b q 1)
@@ -95,14 +77,10 @@ some_at f n k h e = go (some f n) refl
     go true q = q
     go false q = absurd (true_false (sym e ∙ none_some f n q k h))
 
--- no chain goes on at 0, and one that goes on at n comes to the record before n or goes on from its entry
+-- no chain goes on at 0
 ends : (cs : List ℕ) (j n : ℕ) → n ≡ 0 → Reaches cs j n → ⊥
 ends cs j n z (here e) = omega arith
 ends cs j n z (later h w) = omega arith
-
-goes : (cs : List ℕ) (j n : ℕ) → (j ≡ n - 1 → ⊥) → Reaches cs j n → Reaches cs j (get_or cs (n - 1) 0)
-goes cs j n z (here e) = absurd (z (omega arith))
-goes cs j n z (later h w) = w
 
 -- the walk for the type at p, of mark m, has come to n: whatever is alike is still to come
 pub record Walk (b i cs : List ℕ) (r p m n : ℕ) : Type 0 where
@@ -134,25 +112,6 @@ module _ {b i cs : List ℕ} {r p m n : ℕ} (g : Walk b i cs r p m n) where
   pub walk_none : n ≤ 0 → false ≡ repeats b i r p
   walk_none z = repeats_some b i r p m g.mark g.kind false (some_false (λ j. alike b p (get_or i j 0)) r (λ j l. not_true _ (λ a. ends cs j n (omega arith) (g.ahead j l a))))
 
-  module _ (h : 0 < n) where
-    -- the record that it has come to, and whether that is alike
-    pub walk_framed : Framed b (get_or i (n - 1) 0)
-    walk_framed = g.rows.inside (n - 1) (omega (arith, g.within))
-
-    pub walk_found : alike b p (get_or i (n - 1) 0) ≡ true → true ≡ repeats b i r p
-    walk_found e = repeats_some b i r p m g.mark g.kind true (some_at (λ j. alike b p (get_or i j 0)) r (n - 1) (omega (arith, g.within)) e)
-
-    -- it goes on from that record's entry, to an earlier record
-    pub walk_falls : get_or cs (n - 1) 0 < n
-    walk_falls = omega (arith, g.chained.falls (n - 1) (omega (arith, g.within, g.rows.few)))
-
-    pub walk_on : alike b p (get_or i (n - 1) 0) ≡ false → Walk b i cs r p m (get_or cs (n - 1) 0)
-    walk_on e = record {
-      rows = g.rows;
-      chained = g.chained;
-      framed = g.framed;
-      mark = g.mark;
-      kind = g.kind;
-      within = omega (arith, walk_falls, g.within);
-      ahead = λ j l a. goes cs j n (λ z. true_false (sym a ∙ rw z e)) (g.ahead j l a);
-    }
+  -- the record that it has come to is alike
+  pub walk_found : 0 < n → alike b p (get_or i (n - 1) 0) ≡ true → true ≡ repeats b i r p
+  walk_found h e = repeats_some b i r p m g.mark g.kind true (some_at (λ j. alike b p (get_or i j 0)) r (n - 1) (omega (arith, g.within)) e)

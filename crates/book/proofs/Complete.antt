@@ -18,11 +18,11 @@ use Rattle.book.specs.Read.{kind_at, total_at, end_at, alike, repeats, State, on
 use Rattle.book.specs.Ready.{Framed}
 use Rattle.book.specs.Index.{depth}
 use Rattle.book.specs.Valid.{Uses, Tiles, Valid}
-use Rattle.book.proofs.Picks.{not_true, both_false}
+use Rattle.book.proofs.Picks.{not_false, not_true, both_false}
 use Rattle.book.proofs.Judging.{Fits}
 use Rattle.book.proofs.Moves.{verdict, after, step_can}
 use Rattle.book.proofs.Loose.{loosened}
-use Rattle.book.proofs.Course.{over, onward, zeros, length_start}
+use Rattle.book.proofs.Course.{alone, length_unnamed, over, onward, zeros, length_start}
 use Rattle.book.proofs.Established.{read_valid}
 use Rattle.book.proofs.Tiles.{read_tiles}
 use Rattle.book.proofs.Extends.{Extends, set_row, fits_sound}
@@ -131,11 +131,11 @@ module _ (b i : List ℕ) (n : ℕ) (tiles : Tiles b i n) (valid : Valid b i n) 
       go j (no h) = a.beyond j (omega arith) ∙ sym (tiles.beyond j (omega arith))
 
   -- no record before the last is loose
-  not_loose : (s : State) → s.number ≡ n → At b i n s → (x : ℕ) → suc x < n → is_unnamed b (get_or s.index x 0) (get_or s.named x 0) ≡ false
+  not_loose : (s : State) → s.number ≡ n → At b i n s → (x : ℕ) → suc x < n → is_unnamed b (get_or s.index x 0) (get_or s.named x false) ≡ false
   unfolding is_unnamed
   not_loose s e a x l = both_false _ _ (λ z o.
       let u = valid.all x l (rw (index_is s e a) at o) in
-      a.named.roll.marked u.by u.at x (record { before = earlier (let m = u.before in omega arith); uses = u.uses }) (eqb-true _ _ z))
+      a.named.roll.marked u.by u.at x (record { before = earlier (let m = u.before in omega arith); uses = u.uses }) (not_false _ z))
 
   -- so READ is done
   ended : (s : State) → s.number ≡ n → At b i n s → loose b s 0 (s.number - 1) ≡ done n i
@@ -168,7 +168,7 @@ module _ (b i : List ℕ) (n : ℕ) (tiles : Tiles b i n) (valid : Valid b i n) 
     indexed = length_start;
     before = λ j l. absurd (omega arith);
     beyond = λ j l. zeros 4096 j;
-    named = record { long = length_start; roll = roll_start b i _ (zeros 4096) };
+    named = record { long = length_unnamed; roll = roll_start b i _ (alone false 4096) };
     deep = length_start;
     depths = λ j l. absurd (omega arith);
   }

@@ -1,14 +1,16 @@
 -- READ's course, an equation for each way that it goes on from a state, and the rows that it starts with.
 -- Assumes nothing.
 use Prim.Native.Nat.{ℕ, zero, suc, ◌-◌, ◌≤◌, ◌<◌}
-use mathlib.Core.Path.{◌≡◌, refl}
+use mathlib.Core.Path.{◌≡◌, refl, ◌∙◌}
 use mathlib.Core.List.{List}
+use mathlib.Core.Bool.{Bool, false}
 use native.Mathlib.Omega.{arith}
 use lib.ListN.{length, get_or, replicate, length-replicate}
 use borrow.Author.Tests.{lt-ltb, le-ltb}
 use Rattle.book.specs.Faults.{refusal}
 use Rattle.book.specs.Read.{State, on, stop, step, refused, loose, records, start}
-use Rattle.book.specs.Ready.{Ready}
+use Rattle.book.specs.Ready.{Ready, OthersKept}
+use Rattle.book.specs.declared.read.Reader.{Reader}
 use Rattle.book.specs.declared.fault.Fault.{Fault}
 use Rattle.book.specs.declared.fault.Fault.TheVariants.{Records}
 
@@ -38,20 +40,30 @@ module _ (b : List ℕ) (s : State) where
   unfolding records
   full h = rw (lt-ltb _ _ h, records)
 
--- a row of zeros
+-- a row of one value, and of zeros
+pub alone : {A : Type 0} (a : A) (n x : ℕ) → get_or (replicate n a) x a ≡ a
+alone a zero x = refl
+alone a (suc n) zero = refl
+alone a (suc n) (suc x) = alone a n x
+
 pub zeros : (n x : ℕ) → get_or {A = ℕ} (replicate n 0) x 0 ≡ 0
-zeros zero x = refl
-zeros (suc n) zero = refl
-zeros (suc n) (suc x) = zeros n x
+zeros = alone 0
 
 -- each row has 4,096 entries
 pub length_start : length start.index ≡ 4096
 length_start = length-replicate {A = ℕ} 4096 0
 
+pub length_unnamed : length start.named ≡ 4096
+length_unnamed = length-replicate {A = Bool} 4096 false
+
 -- every row is ready before the first record
 pub ready_start : (b : List ℕ) → length b < 65536 → Kept b start
 ready_start b h = record {
   rows = record { size = h; few = omega arith; indexed = length_start; inside = λ j z. absurd (omega arith) };
-  noted = length_start;
+  noted = length_unnamed;
   deep = length_start;
 }
+
+-- and stays so while its fields are judged
+pub ready_kept : {b : List ℕ} {s t : Reader} {r : ℕ} → OthersKept s t → Ready b s.index s.named s.depths r → Ready b t.index t.named t.depths r
+ready_kept k w = record { rows = rw k.index w.rows; noted = k.named ∙ w.noted; deep = rw k.depths w.deep }

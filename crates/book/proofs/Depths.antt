@@ -69,7 +69,7 @@ module _ (b i j : List ℕ) (r p : ℕ) (x : Extends i j r p) where
 
   -- the depth of the deepest record that the fields name, where ds has the earlier depths
   module _ (ds : List ℕ) (g : (y : ℕ) → y < r → get_or ds y 0 ≡ depth b i y) where
-    deep_fields : (k left : ℕ) (nm : List ℕ) (d : ℕ) (nm' : List ℕ) (d' : ℕ) → fields b i ds r p k left nm d ≡ good nm' d' → d' ≡ deepest b j (depths b j r) r k left d
+    deep_fields : (k left : ℕ) (nm : List Bool) (d : ℕ) (nm' : List Bool) (d' : ℕ) → fields b i ds r p k left nm d ≡ good nm' d' → d' ≡ deepest b j (depths b j r) r k left d
     unfolding fields deepest
     deep_fields k zero nm d nm' d' e = cc
     deep_fields k (suc left) nm d nm' d' e =
@@ -81,6 +81,6 @@ module _ (b i j : List ℕ) (r p : ℕ) (x : Extends i j r p) where
         rw (x.new, ← q) (deep_fields (k + 1) left _ _ nm' d' w.others)
 
     -- so the depth of the new record is one more
-    pub deep_new : (nm nm' : List ℕ) (d : ℕ) → fields b i ds r p 0 (total_at b p) nm 0 ≡ good nm' d → d + 1 ≡ depth b j r
+    pub deep_new : (nm nm' : List Bool) (d : ℕ) → fields b i ds r p 0 (total_at b p) nm 0 ≡ good nm' d → d + 1 ≡ depth b j r
     unfolding depth
     deep_new nm nm' d e = rw (x.new, ← deep_fields 0 (total_at b p) nm 0 nm' d e)

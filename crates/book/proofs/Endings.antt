@@ -7,28 +7,27 @@ use mathlib.Core.Logic.{⊎_elim}
 use mathlib.Core.List.{List}
 use native.Mathlib.Nat.{mul-le-mul_left, eq-zero-or-pos}
 use native.Mathlib.Omega.{arith}
-use borrow.Author.Tests.{eq-eqb, ne_eqb, le-leb, lt-leb, eqb-false, ltb-false}
+use borrow.Author.Tests.{eq-eqb, ne_eqb, eqb-false, ltb-false}
 use lib.Dec.{eqb, ltb}
-use lib.ListN.{length, get_or, set}
+use Rattle.std.specs.Prelude.{Result, Ok, Err}
+use lib.ListN.{length, get_or}
 use Rattle.laws.specs.Table.{pick}
 use Rattle.book.specs.Format.{total_of, EXPRESSION}
 use Rattle.book.specs.Faults.{refusal}
-use Rattle.book.specs.Read.{mark_at, kind_at, layout_at, count_in, count_at, total_at, end_at, fields, Verdict, good, bad, repeats, State, state, Moved, on, stop, settle, step, done, refused, is_unnamed, loose}
-use Rattle.book.specs.Ready.{Opens, frame_from, frame_of, verdict_of}
-use Rattle.book.specs.declared.read.Judged.{Judged}
-use Rattle.book.specs.declared.read.Judged.TheVariants as judgeds
+use Rattle.book.specs.Read.{mark_at, kind_at, layout_at, count_in, count_at, total_at, end_at, fields, Verdict, good, bad, State, Moved, stop, settle, step, done, refused, is_unnamed, loose}
+use Rattle.book.specs.Ready.{Opens, frame, frame_from, frame_of, verdict_of}
 use Rattle.book.specs.declared.fault.Fault.{Fault}
-use Rattle.book.specs.declared.fault.Fault.TheVariants.{Cut, Mark, Twice, Depth, Loose}
-use Rattle.book.specs.declared.read.Frame.TheVariants as frames
+use Rattle.book.specs.declared.fault.Fault.TheVariants.{Cut, Mark, Loose}
+use Rattle.book.specs.declared.read.Frame.{Frame}
 use Rattle.book.proofs.Picks.{second}
 
 -- the last records: n of them stand before the last
 module _ (b : List ℕ) (s : State) (n j : ℕ) where
-  pub loose_here : j < n → is_unnamed b (get_or s.index j 0) (get_or s.named j 0) ≡ true → refused (refusal Loose j) ≡ loose b s j (n - j)
+  pub loose_here : j < n → is_unnamed b (get_or s.index j 0) (get_or s.named j false) ≡ true → refused (refusal Loose j) ≡ loose b s j (n - j)
   unfolding loose
   loose_here h e = let q : n - j ≡ suc (n - (j + 1)) = omega arith in rw (q, e)
 
-  pub loose_on : j < n → is_unnamed b (get_or s.index j 0) (get_or s.named j 0) ≡ false → loose b s (j + 1) (n - (j + 1)) ≡ loose b s j (n - j)
+  pub loose_on : j < n → is_unnamed b (get_or s.index j 0) (get_or s.named j false) ≡ false → loose b s (j + 1) (n - (j + 1)) ≡ loose b s j (n - j)
   unfolding loose
   loose_on h e = let q : n - j ≡ suc (n - (j + 1)) = omega arith in rw (q, e)
 
@@ -43,40 +42,25 @@ module _ (b : List ℕ) (s : State) (n j : ℕ) where
 pub loose_all : (b : List ℕ) (s : State) (n : ℕ) → loose b s 0 (n - 0) ≡ loose b s 0 n
 loose_all b s n = let q : n - 0 ≡ n = omega arith in rw q
 
--- after a record's fields
-module _ (b : List ℕ) (s : State) (nm : List ℕ) (d : ℕ) where
-  pub settle_twice : repeats b s.index s.number s.place ≡ true → stop Twice ≡ settle b s (good nm d)
-  unfolding settle
-  settle_twice e = rw e
-
-  module _ (fresh : repeats b s.index s.number s.place ≡ false) where
-    pub settle_deep : 255 ≤ d → stop Depth ≡ settle b s (good nm d)
-    unfolding settle
-    settle_deep h = rw (fresh, le-leb 255 d h)
-
-    pub settle_on : d < 255 → (e : ℕ) → e ≡ end_at b s.place → on (state e (s.number + 1) (set s.index s.number s.place) nm (set s.depths s.number (d + 1))) ≡ settle b s (good nm d)
-    unfolding settle
-    settle_on h e q = rw (fresh, lt-leb 255 d h, q)
-
 -- the code's answer on the fields, beside the row of names that it left
-module _ (b : List ℕ) (s : State) (v : Judged) (nm : List ℕ) (w : Verdict) (is : verdict_of v nm ≡ w) where
-  pub settle_bad : (f : Fault) → v ≡ judgeds.Bad f → stop f ≡ settle b s w
+module _ (b : List ℕ) (s : State) (v : Result ℕ Fault) (nm : List Bool) (w : Verdict) (is : verdict_of v nm ≡ w) where
+  pub settle_bad : (f : Fault) → v ≡ Err f → stop f ≡ settle b s w
   unfolding settle
-  settle_bad f e = let q : bad f ≡ w = sym (ap (λ (u : Judged). verdict_of u nm) e) ∙ is in rw (← q)
+  settle_bad f e = let q : bad f ≡ w = sym (ap (λ (u : Result ℕ Fault). verdict_of u nm) e) ∙ is in rw (← q)
 
-  pub settle_good : (d : ℕ) → v ≡ judgeds.Good d → settle b s (good nm d) ≡ settle b s w
-  settle_good d e = ap (settle b s) (sym (ap (λ (u : Judged). verdict_of u nm) e) ∙ is)
+  pub settle_good : (d : ℕ) → v ≡ Ok d → settle b s (good nm d) ≡ settle b s w
+  settle_good d e = ap (settle b s) (sym (ap (λ (u : Result ℕ Fault). verdict_of u nm) e) ∙ is)
 
 -- three tests in a row, as a frame and as a move
-bad_is : (t u v : Bool) (x : Moved) (m n e : ℕ) (f : Fault) → pick t (frames.Bad Cut) (pick u (frames.Bad Mark) (pick v (frames.Bad Cut) (frames.Of m n e))) ≡ frames.Bad f → stop f ≡ pick t (stop Cut) (pick u (stop Mark) (pick v (stop Cut) x))
+bad_is : (t u v : Bool) (x : Moved) (m n e : ℕ) (f : Fault) → pick t (Err Cut) (pick u (Err Mark) (pick v (Err Cut) (Ok (frame m n e)))) ≡ Err f → stop f ≡ pick t (stop Cut) (pick u (stop Mark) (pick v (stop Cut) x))
 bad_is true u v x m n e f q = let z : f ≡ Cut = cc in ap stop z
 bad_is false true v x m n e f q = let z : f ≡ Mark = cc in ap stop z
 bad_is false false true x m n e f q = let z : f ≡ Cut = cc in ap stop z
-bad_is false false false x m n e f q = absurd (let z : ◌≡◌ {A = ℕ} 0 1 = cc in omega arith)
+bad_is false false false x m n e f q = cc
 
 -- a frame that is there is no refusal
-of_frame : (f : Fault) (m n e : ℕ) → frames.Bad f ≡ frames.Of m n e → ⊥
-of_frame f m n e q = let z : ◌≡◌ {A = ℕ} 0 1 = cc in omega arith
+of_frame : (f : Fault) (m n e : ℕ) → Err f ≡ Ok (frame m n e) → ⊥
+of_frame f m n e q = cc
 
 -- what a frame that is there says: the three tests failed, and these are its mark, count and end
 record Whole (t u v : Bool) (m n e m' n' e' : ℕ) : Type 0 where
@@ -87,13 +71,14 @@ record Whole (t u v : Bool) (m n e m' n' e' : ℕ) : Type 0 where
   count : n' ≡ n
   end : e' ≡ e
 
-whole_is : (t u v : Bool) (m n e m' n' e' : ℕ) → pick t (frames.Bad Cut) (pick u (frames.Bad Mark) (pick v (frames.Bad Cut) (frames.Of m n e))) ≡ frames.Of m' n' e' → Whole t u v m n e m' n' e'
+whole_is : (t u v : Bool) (m n e m' n' e' : ℕ) → pick t (Err Cut) (pick u (Err Mark) (pick v (Err Cut) (Ok (frame m n e)))) ≡ Ok (frame m' n' e') → Whole t u v m n e m' n' e'
 whole_is t u v m n e m' n' e' q =
     let x = second t _ _ _ (of_frame Cut m' n' e') q in
     let y = second u _ _ _ (of_frame Mark m' n' e') x.1 in
     let z = second v _ _ _ (of_frame Cut m' n' e') y.1 in
-    let w : frames.Of m n e ≡ frames.Of m' n' e' = z.1 in
-    record { long = x.0; marked = y.0; uncut = z.0; mark = cc; count = cc; end = cc }
+    let o : Ok (frame m n e) ≡ Ok (frame m' n' e') = z.1 in
+    let w : frame m' n' e' ≡ frame m n e = cc in
+    record { long = x.0; marked = y.0; uncut = z.0; mark = ap (λ (f : Frame). f.mark) w; count = ap (λ (f : Frame). f.count) w; end = ap (λ (f : Frame). f.end) w }
 
 -- a count is no greater than the record is long
 count_within : (b : List ℕ) (p : ℕ) → count_at b p ≤ total_at b p
@@ -105,11 +90,11 @@ count_within b p =
     (eq-zero-or-pos l.eachs)
 
 module _ (b : List ℕ) (s : State) where
-  pub step_bad : (f : Fault) → frames.Bad f ≡ frame_of b s.place → stop f ≡ step b s
+  pub step_bad : (f : Fault) → Err f ≡ frame_of b s.place → stop f ≡ step b s
   unfolding step frame_of frame_from
   step_bad f q = bad_is (ltb (length b) (s.place + 2)) (eqb (mark_at b s.place) 0) (ltb (length b) (end_at b s.place)) _ _ _ _ f (sym q)
 
-  module _ (m n e : ℕ) (q : frames.Of m n e ≡ frame_of b s.place) where
+  module _ (m n e : ℕ) (q : Ok (frame m n e) ≡ frame_of b s.place) where
     found : Whole (ltb (length b) (s.place + 2)) (eqb (mark_at b s.place) 0) (ltb (length b) (end_at b s.place)) (mark_at b s.place) (count_at b s.place) (end_at b s.place) m n e
     unfolding frame_of frame_from
     found = whole_is _ _ _ _ _ _ _ _ _ (sym q)

@@ -2,7 +2,7 @@
 -- Assumes nothing.
 use Rattle.std.specs.declared.result.Result.TheVariants.{Ok}
 use Prim.Native.Nat.{ℕ, ◌+◌, ◌-◌, ◌≤◌, ◌<◌}
-use mathlib.Core.Bool.{true, false}
+use mathlib.Core.Bool.{true, false, Bool}
 use mathlib.Core.Path.{◌≡◌, refl, sym, subst₂, ◌∙◌}
 use mathlib.Core.List.{List}
 use native.Mathlib.Omega.{arith}
@@ -15,7 +15,7 @@ use Rattle.book.specs.Index.{single, depth}
 use Rattle.book.specs.Valid.{Sound, Used, Valid}
 use Rattle.book.proofs.Judging.{up_to, fields_fit}
 use Rattle.book.proofs.Moves.{takes}
-use Rattle.book.proofs.Course.{Kept, zeros}
+use Rattle.book.proofs.Course.{alone, Kept}
 use Rattle.book.proofs.Reached.{reading_reached}
 use Rattle.book.proofs.Loose.{tightened}
 use Rattle.book.proofs.Extends.{Extends, extends, set_row, sound_before, sound_new}
@@ -25,7 +25,7 @@ use Rattle.book.proofs.Depths.{depth_before, deep_new}
 use Rattle.book.proofs.Unlike.{Unlike, unlike_next, unlike_all}
 
 -- what holds of the first n records
-record Holds (b i nm ds : List ℕ) (n : ℕ) : Type 0 where
+record Holds (b i : List ℕ) (nm : List Bool) (ds : List ℕ) (n : ℕ) : Type 0 where
   sound : (r : ℕ) → r < n → Sound b i r
   roll : Roll b i n 0 nm
   deep : (r : ℕ) → r < n → get_or ds r 0 ≡ depth b i r
@@ -33,7 +33,7 @@ record Holds (b i nm ds : List ℕ) (n : ℕ) : Type 0 where
   unlike : Unlike b i n
 
 -- one more record
-module _ (b i nm ds : List ℕ) (r p : ℕ) (ready : Ready b i nm ds r) (few : r < 4096) (nm' : List ℕ) (d : ℕ) (e : fields b i ds r p 0 (total_at b p) nm 0 ≡ good nm' d) (fresh : repeats b i r p ≡ false) (low : d < 255) where
+module _ (b i : List ℕ) (nm : List Bool) (ds : List ℕ) (r p : ℕ) (ready : Ready b i nm ds r) (few : r < 4096) (nm' : List Bool) (d : ℕ) (e : fields b i ds r p 0 (total_at b p) nm 0 ≡ good nm' d) (fresh : repeats b i r p ≡ false) (low : d < 255) where
   holds_next : Holds b i nm ds r → Holds b (set i r p) nm' (set ds r (d + 1)) (r + 1)
   holds_next h =
       let j = set i r p in
@@ -61,19 +61,19 @@ holds_step b s t ready few e h =
 holds_start : (b : List ℕ) → HoldsOf b start
 holds_start b = record {
   sound = λ r l. absurd (omega arith);
-  roll = roll_start b _ _ (zeros 4096);
+  roll = roll_start b _ _ (alone false 4096);
   deep = λ r l. absurd (omega arith);
   shallow = λ r l. absurd (omega arith);
   unlike = λ r s h l. absurd (omega arith);
 }
 
 -- what is not loose and may be named once is marked
-not_loose : (b : List ℕ) (p m : ℕ) → is_unnamed b p m ≡ false → single (kind_at b p) ≡ true → m ≡ 0 → ⊥
+not_loose : (b : List ℕ) (p : ℕ) (m : Bool) → is_unnamed b p m ≡ false → single (kind_at b p) ≡ true → m ≡ false → ⊥
 unfolding is_unnamed
 not_loose b p m e o z = true_false (sym o ∙ rw z at e)
 
 -- what may be named once and stands before the last record is named
-all_used : (b i nm : List ℕ) (n x : ℕ) → Roll b i n 0 nm → (get_or nm x 0 ≡ 0 → ⊥) → Used b i n x
+all_used : (b i : List ℕ) (nm : List Bool) (n x : ℕ) → Roll b i n 0 nm → (get_or nm x false ≡ false → ⊥) → Used b i n x
 all_used b i nm n x w h =
     let u = w.used x h in
     record { by = u.by; at = u.at; before = before_first _ _ n u.names.before; uses = u.names.uses }
@@ -103,4 +103,4 @@ answer_valid b n = go (reading b) refl
   where
     go : (o : Outcome) → reading b ≡ o → answer_of o ≡ Ok n → Valid b (places_of o) n
     go (done m i) e q = let z : m ≡ n = cc in rw z at (read_valid b i m e)
-    go (refused w) e q = absurd (let z : ◌≡◌ {A = ℕ} 0 1 = cc in omega arith)
+    go (refused w) e q = cc

@@ -3,12 +3,15 @@
 use Rattle.std.specs.declared.result.Result.{Result}
 use Rattle.std.specs.declared.result.Result.TheVariants.{Ok, Err}
 use Prim.Native.Nat.{ℕ, suc, ◌+◌, ◌-◌, ◌≤◌, ◌<◌}
-use mathlib.Core.Path.{◌≡◌, sym, ap, subst, ◌∙◌}
-use mathlib.Core.Bool.{true, false}
+use mathlib.Core.Path.{◌≡◌, refl, sym, ap, subst, ◌∙◌}
+use mathlib.Core.Bool.{true, false, Bool}
 use mathlib.Core.List.{List}
 use native.Mathlib.Omega.{arith}
 use lib.Dec.{T, ltb, ltb→lt}
 use lib.ListN.{length, replicate}
+use Rattle.std.specs.Prelude.{Result, Ok, Err, MatchResult}
+use Rattle.std.specs.Result.{IsErrAnd}
+use Rattle.std.proofs.lemmas.Result.{err_from_is_err_and}
 use Rattle.laws.specs.Table.{both, both_left, both_right}
 use Rattle.book.specs.Faults.{refusal}
 use Rattle.book.specs.Read.{State, state, on, stop, step, Outcome, done, refused, loose, records, start, sized, reading, answer_of, places_of, read_of, index_of}
@@ -16,13 +19,11 @@ use Rattle.book.specs.Ready.{Ready, Chained, Carried, moved_of, outcome_of}
 use Rattle.book.specs.declared.fault.Fault.{Fault}
 use Rattle.book.specs.declared.fault.Fault.TheVariants.{Records, Size}
 use Rattle.book.specs.declared.fault.Refusal.{Refusal}
-use Rattle.book.specs.declared.read.Next.{Next}
-use Rattle.book.specs.declared.read.Next.TheVariants as nexts
 use Rattle.book.proofs.Course.{over, onward, halts, full}
 use Rattle.book.proofs.Moves.{moves}
 
 -- READ has come to record r at p with these rows, and what it will answer from here is o
-pub record Going (b : List ℕ) (o : Outcome) (i nm ds cs : List ℕ) (p r : ℕ) : Type 0 where
+pub record Going (b : List ℕ) (o : Outcome) (i : List ℕ) (nm : List Bool) (ds cs : List ℕ) (p r : ℕ) : Type 0 where
   pub left : records (4096 - r) b (state p r i nm ds) ≡ o
   pub ready : Ready b i nm ds r
   pub chained : Chained b i cs r
@@ -45,15 +46,28 @@ module _ (b : List ℕ) (s : State) (r : ℕ) where
   pub ended : length b ≤ s.place → loose b s 0 (s.number - 1) ≡ records (4096 - r) b s
   ended h = sym (over b s _ h)
 
--- the code's answer on a record, beside the rows that it left
-module _ (b : List ℕ) (o : Outcome) (i nm ds cs : List ℕ) (p r : ℕ) (g : Going b o i nm ds cs p r) (h : p < length b) (l : r < 4096)
-    (v : Next) (i' nm' ds' cs' : List ℕ) (is : (moved_of v r i' nm' ds' ≡ step b (state p r i nm ds)) × Carried v b i' cs' r) where
-  pub going_bad : (f : Fault) → v ≡ nexts.Bad f → refused (refusal f r) ≡ o
-  going_bad f e = stopped b (state p r i nm ds) r h l f (sym (ap (λ (u : Next). moved_of u r i' nm' ds') e) ∙ is.0) ∙ g.left
+-- a fault that gets its place: what the answer was before
+pub ok_before : (Q : Fault → Refusal → Type 0) (v : Result ℕ Fault) (w : Result ℕ Refusal) → MatchResult v (λ x. w ≡ Ok x) (λ f. IsErrAnd w (Q f)) → (n : ℕ) → w ≡ Ok n → v ≡ Ok n
+ok_before Q (Ok x) w h n e = let z : x ≡ n = cc in ap (λ (k : ℕ). Ok k) z
+ok_before Q (Err f) w h n e = let p = err_from_is_err_and w h in let z = p.1 in cc
 
-  module _ (e : ℕ) (at : v ≡ nexts.At e) where
+pub err_before : (Q : Fault → Refusal → Type 0) (v : Result ℕ Fault) (w : Result ℕ Refusal) → MatchResult v (λ x. w ≡ Ok x) (λ f. IsErrAnd w (Q f)) → (u : Refusal) → w ≡ Err u → (f : Fault) × (v ≡ Err f) × Q f u
+err_before Q (Ok x) w h u e = cc
+err_before Q (Err f) w h u e =
+    let p = err_from_is_err_and w h in
+    let q = p.1 in
+    let z : p.0 ≡ u = cc in
+    (f, refl, subst (λ (k : Refusal). Q f k) z p.2)
+
+-- the code's answer on a record, beside the rows that it left
+module _ (b : List ℕ) (o : Outcome) (i : List ℕ) (nm : List Bool) (ds cs : List ℕ) (p r : ℕ) (g : Going b o i nm ds cs p r) (h : p < length b) (l : r < 4096)
+    (v : Result ℕ Fault) (i' : List ℕ) (nm' : List Bool) (ds' cs' : List ℕ) (is : (moved_of v r i' nm' ds' ≡ step b (state p r i nm ds)) × Carried v b i' cs' r) where
+  pub going_bad : (f : Fault) → v ≡ Err f → refused (refusal f r) ≡ o
+  going_bad f e = stopped b (state p r i nm ds) r h l f (sym (ap (λ (u : Result ℕ Fault). moved_of u r i' nm' ds') e) ∙ is.0) ∙ g.left
+
+  module _ (e : ℕ) (at : v ≡ Ok e) where
     moved : on (state e (r + 1) i' nm' ds') ≡ step b (state p r i nm ds)
-    moved = sym (ap (λ (u : Next). moved_of u r i' nm' ds') at) ∙ is.0
+    moved = sym (ap (λ (u : Result ℕ Fault). moved_of u r i' nm' ds') at) ∙ is.0
 
     pub going_further : p < e
     going_further = (moves b (state p r i nm ds) (state e (r + 1) i' nm' ds') g.ready l (sym moved)).further
@@ -64,7 +78,7 @@ module _ (b : List ℕ) (o : Outcome) (i nm ds cs : List ℕ) (p r : ℕ) (g : G
         record {
           left = gone_on b (state p r i nm ds) r h l _ moved ∙ g.left;
           ready = w.ready;
-          chained = subst (λ (u : Next). Carried u b i' cs' r) at is.1;
+          chained = subst (λ (u : Result ℕ Fault). Carried u b i' cs' r) at is.1;
           inside = w.inside;
           begun = λ z. omega arith;
         }

@@ -8,8 +8,8 @@ use native.Mathlib.Omega.{arith}
 use borrow.Author.Tests.{eq-eqb, ne_eqb}
 use lib.ListN.{get_or, set, replicate, length-set, length-replicate}
 use lib.Seq.{get_or-set_same, get_or-set_other}
-use Rattle.book.specs.Format.{kind_of, TYPE}
-use Rattle.book.specs.Read.{mark_at, kind_at}
+use Rattle.book.specs.Format.{TYPE}
+use Rattle.book.specs.Read.{kind_at}
 use Rattle.book.specs.Ready.{Rows, chain_of, Reaches, here, later, Chained, joined}
 use Rattle.book.proofs.Chains.{Behind, chain_within}
 use Rattle.book.proofs.Course.{zeros}
@@ -109,13 +109,3 @@ module _ (b i cs : List ℕ) (r p : ℕ) (w : Rows b i r) (c : Chained b i cs r)
       go : Dec (kind_at b p ≡ TYPE) → Chained b (set i r p) (joined b cs r p) (r + 1)
       go (yes k) = rw (eq-eqb (kind_at b p) TYPE k) type_joins
       go (no n) = rw (ne_eqb (kind_at b p) TYPE n) (other_joins n)
-
--- what the code leaves of the chains, by the mark
-module _ (b cs : List ℕ) (r p m : ℕ) (is : m ≡ mark_at b p) where
-  pub joined_not : (kind_of m ≡ TYPE → ⊥) → cs ≡ joined b cs r p
-  unfolding joined kind_at
-  joined_not n = rw (← is, ne_eqb (kind_of m) TYPE n)
-
-  pub joined_type : kind_of m ≡ TYPE → (c : ℕ) → c ≡ chain_of b p → set (set cs r (get_or cs c 0)) c (r + 1) ≡ joined b cs r p
-  unfolding joined kind_at
-  joined_type k c e = rw (e, ← is, eq-eqb (kind_of m) TYPE k)

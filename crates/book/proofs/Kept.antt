@@ -10,11 +10,10 @@ use borrow.Author.Tests.{lt-ltb, le-ltb, eqb-true, eqb-false, ne_eqb}
 use lib.Dec.{T, eqb, ltb, lit<}
 use lib.ListN.{get_or}
 use Rattle.laws.specs.Table.{pick, Case, at, choose}
-use Rattle.book.specs.Format.{role_of, total_of, EXPRESSION, PT, ET, EL, EN, EB, EH, CJ, CF, CH, FN}
+use Rattle.book.specs.Format.{Fields, role_of, total_of, EXPRESSION, PT, ET, EL, EN, EB, EH, CJ, CF, CH, FN}
 use Rattle.book.specs.Read.{names}
 use Rattle.book.specs.Tree.{no_pats, more_pats, pat_row, param, tuple, list, variant, block, match_enum, jet, call, hash, no_exprs, more_exprs, no_arms, more_arms, no_parts, more_parts, end, no_end, fun, Tree, pattern, expression, function, nothing, as_type, as_pattern, as_expr, as_stmt, as_fun, group, pats_at, exprs_at, arms_at, parts_at, params_at, last_at, stmts_at, Maker, makers, maker}
 use Rattle.book.proofs.Roles.{layout, counted, is_kind, kind_some, names_kind, each_role, each_inside, last_role, last_inside}
-use Rattle.book.specs.declared.format.Layout.{Layout}
 
 -- groups are equal where each time's share is
 group_same : {A : Type 0} (s : ℕ) (e : A) (f g : ℕ → A → A) (k m : ℕ) → ((q : ℕ) → q < m → f (k + q * s) ≡ g (k + q * s)) → group s e f k m ≡ group s e g k m
@@ -27,11 +26,11 @@ group_same s e f g k (suc m) h =
     rw (first, group_same s e f g (k + s) m (λ q p. rw (there q) at (h (suc q) (omega arith))))
 
 -- the kind that field k names, 0 where it names none or where there is no such field; in the head it computes
-abbrev refers : Layout → ℕ → (ℕ → ℕ) → ℕ → ℕ
+abbrev refers : Fields → ℕ → (ℕ → ℕ) → ℕ → ℕ
 refers l n x k = pick (ltb k l.heads) (names (role_of l n k) (x k)) (pick (ltb k (total_of l n)) (names (role_of l n k) (x k)) 0)
 
 -- the trees of what the fields name, and nothing at the other fields
-abbrev kept : Layout → ℕ → (ℕ → ℕ) → (ℕ → Tree) → ℕ → Tree
+abbrev kept : Fields → ℕ → (ℕ → ℕ) → (ℕ → Tree) → ℕ → Tree
 kept l n x a k = pick (eqb (refers l n x k) 0) nothing (a k)
 
 -- what a field with a kind's role names is kept
@@ -43,7 +42,7 @@ pick_same : {A : Type 0} (t : Bool) (y : A) → pick t y y ≡ y
 pick_same true y = refl
 pick_same false y = refl
 
-module _ (l : Layout) (n : ℕ) (x : ℕ → ℕ) where
+module _ (l : Fields) (n : ℕ) (x : ℕ → ℕ) where
   -- among the fields the role decides, and beyond them there is none
   refers_inside : (k : ℕ) → k < total_of l n → refers l n x k ≡ names (role_of l n k) (x k)
   refers_inside k h = rw (lt-ltb k (total_of l n) h) (pick_same (ltb k l.heads) (names (role_of l n k) (x k)))

@@ -1,17 +1,16 @@
 -- What holds of every layout, and what a group's count and size come to.
 -- Assumes nothing.
-use Prim.Native.Nat.{ℕ, ◌*◌, ◌%◌, ◌≤◌, ◌<◌}
+use Prim.Native.Nat.{ℕ, ◌*◌, ◌≤◌, ◌<◌}
 use mathlib.Core.Path.{◌≡◌, refl, sym, ap, subst, ◌∙◌}
-use native.Mathlib.Nat.{mul-le-mul_left, mul-zero, mod-lt, eq-zero-or-pos}
-use mathlib.Core.Logic.{⊎_elim, inr}
-use mathlib.Core.Bool.{Bool, true, false}
+use native.Mathlib.Nat.{mul-le-mul_left}
+use mathlib.Core.Bool.{Bool, true}
 use mathlib.Core.List.{[], ◌∷◌}
 use lib.Dec.{T, eqb, ltb, leb, ltb→lt, leb→le, lit<}
 use lib.ListN.{length, get_or-eq_default}
-use borrow.Author.Tests.{eq-eqb, ne_eqb}
-use Rattle.laws.specs.Table.{pick, among, arm, below, all_below}
+use borrow.Author.Tests.{eq-eqb}
+use Rattle.laws.specs.Table.{pick, below, all_below}
 use Rattle.laws.specs.Order.{by_lt}
-use Rattle.book.specs.Format.{EXPRESSION, STATEMENT, Small, kind_of, layout_of, Row, row_of, row, marks}
+use Rattle.book.specs.Format.{Small, kind_of, layout_of, Row, row_of, row, marks}
 use native.Mathlib.Omega.{arith}
 
 -- past the last mark there is none
@@ -35,20 +34,6 @@ kind_marks f kd some t m e =
 -- a group of at most two fields that stands fewer than 65,536 times
 pub groups_fit : (n e : ℕ) → n < 65536 → e ≤ 2 → n * e ≤ 131070
 groups_fit n e h l = let p : n * e ≤ n * 2 = mul-le-mul_left n l in omega arith
-
--- a group that some field belongs to is not empty
-pub group_some : (j n e : ℕ) → j < n * e → 0 < e
-group_some j n e h = ⊎_elim (λ (z : e ≡ 0). absurd (let q : n * e ≡ 0 = rw z (mul-zero n) in omega arith)) (λ p. p) (eq-zero-or-pos e)
-
-pub place_inside : (j n e : ℕ) → j < n * e → j % e < e
-place_inside j n e h = mod-lt j (group_some j n e h)
-
--- expressions and statements are the kinds that are named once only
-pub single_in : (k : ℕ) → 4 ≤ k → k < 6 → among (EXPRESSION ∷ STATEMENT ∷ []) k ≡ true
-single_in k a b = sym (arm [] (λ m. among (EXPRESSION ∷ STATEMENT ∷ []) m) true 4 2 (inr refl, (inr refl, tt)) k refl a b)
-
-pub single_out : (k : ℕ) → (k ≡ EXPRESSION → ⊥) → (k ≡ STATEMENT → ⊥) → among (EXPRESSION ∷ STATEMENT ∷ []) k ≡ false
-single_out k a b = rw (ne_eqb k EXPRESSION a, ne_eqb k STATEMENT b)
 
 -- every mark's layout is small
 pub small_of : (m : ℕ) → Small (layout_of m)

@@ -21,7 +21,7 @@ same_done m n j i e = (cc, cc)
 pub record Tight (b : List ℕ) (s : State) (j left n : ℕ) (i : List ℕ) : Type 0 where
   pub number : s.number ≡ n
   pub index : s.index ≡ i
-  pub named : (x : ℕ) → j ≤ x → x < j + left → is_unnamed b (get_or s.index x 0) (get_or s.named x 0) ≡ false
+  pub named : (x : ℕ) → j ≤ x → x < j + left → is_unnamed b (get_or s.index x 0) (get_or s.named x false) ≡ false
   pub root : kind_at b (get_or s.index (j + left) 0) ≡ EXPRESSION
 
 -- where READ is done

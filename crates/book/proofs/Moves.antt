@@ -40,12 +40,12 @@ pub record Takes (b : List ℕ) (s t : State) : Type 0 where
   pub depths : t.depths ≡ set s.depths s.number (deep + 1)
 
 -- the state after a good record
-abbrev pub after : List ℕ → State → List ℕ → ℕ → State
+abbrev pub after : List ℕ → State → List Bool → ℕ → State
 after b s nm d = state (end_at b s.place) (s.number + 1) (set s.index s.number s.place) nm (set s.depths s.number (d + 1))
 
 module _ (b : List ℕ) (s t : State) where
   -- the same, once all of it is found
-  taken : (nm : List ℕ) (d : ℕ) → Framed b s.place → verdict b s ≡ good nm d
+  taken : (nm : List Bool) (d : ℕ) → Framed b s.place → verdict b s ≡ good nm d
       → repeats b s.index s.number s.place ≡ false → d < 255 → on (after b s nm d) ≡ on t → Takes b s t
   taken nm d f z n l e =
       let w : after b s nm d ≡ t = cc in
@@ -81,7 +81,7 @@ module _ (b : List ℕ) (s t : State) where
       settled (record { known = pos_of_ne-zero k; ends = ltb-false _ _ j.0 }) _ refl j.1
 
 -- and a good record is taken
-pub step_can : (b : List ℕ) (s : State) (nm : List ℕ) (d : ℕ) → Framed b s.place → verdict b s ≡ good nm d
+pub step_can : (b : List ℕ) (s : State) (nm : List Bool) (d : ℕ) → Framed b s.place → verdict b s ≡ good nm d
     → repeats b s.index s.number s.place ≡ false → d < 255 → step b s ≡ on (after b s nm d)
 unfolding step settle end_at
 step_can b s nm d f z n l =

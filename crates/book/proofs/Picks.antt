@@ -1,10 +1,9 @@
 -- Tests and choices: which of two was picked, where only one can be the answer; and READ's answers told apart.
 -- Assumes nothing.
 use Prim.Native.Nat.{ℕ}
-use mathlib.Core.Bool.{Bool, true, false}
-use mathlib.Core.Path.{◌≡◌, refl}
+use mathlib.Core.Bool.{Bool, true, false, not}
+use mathlib.Core.Path.{◌≡◌, refl, sym}
 use mathlib.Core.List.{List}
-use native.Mathlib.Omega.{arith}
 use Rattle.laws.specs.Table.{pick, both, true_false}
 use Rattle.book.specs.Read.{good, bad, State, on, stop, done, refused}
 use Rattle.book.specs.declared.fault.Fault.{Fault}
@@ -30,16 +29,20 @@ pub not_true : (t : Bool) → (t ≡ true → ⊥) → t ≡ false
 not_true true h = absurd (h refl)
 not_true false h = refl
 
+pub not_false : (t : Bool) → not t ≡ true → t ≡ false
+not_false true e = absurd (true_false (sym e))
+not_false false e = refl
+
 pub both_false : (s t : Bool) → (s ≡ true → t ≡ true → ⊥) → both s t ≡ false
 both_false true t h = not_true t (h refl)
 both_false false t h = refl
 
 -- a refusal is no success
-pub bad_good : (f : Fault) (nm : List ℕ) (d : ℕ) → bad f ≡ good nm d → ⊥
-bad_good f nm d e = let z : ◌≡◌ {A = ℕ} 0 1 = cc in omega arith
+pub bad_good : (f : Fault) (nm : List Bool) (d : ℕ) → bad f ≡ good nm d → ⊥
+bad_good f nm d e = cc
 
 pub stop_on : (f : Fault) (s : State) → stop f ≡ on s → ⊥
-stop_on f s e = let z : ◌≡◌ {A = ℕ} 0 1 = cc in omega arith
+stop_on f s e = cc
 
 pub refused_done : (w : Refusal) (n : ℕ) (i : List ℕ) → refused w ≡ done n i → ⊥
-refused_done w n i e = let z : ◌≡◌ {A = ℕ} 0 1 = cc in omega arith
+refused_done w n i e = cc

@@ -10,14 +10,13 @@ use borrow.Author.Tests.{lt-ltb, le-ltb, le-leb, ne_eqb}
 use lib.Dec.{T, eqb, ltb, leb, ltb→lt, leb→le}
 use lib.ListN.{get_or}
 use Rattle.laws.specs.Table.{pick, both, both_left, both_right}
-use Rattle.book.specs.Format.{word_at, row_of, layout_row, layout_of, role_of, total_of, in_range, EXPRESSION, FUNCTION, END}
+use Rattle.book.specs.Format.{Fields, word_at, row_of, layout_row, layout_of, role_of, total_of, in_range, EXPRESSION, FUNCTION, END}
 use Rattle.book.proofs.Layouts.{each_row}
 use Rattle.book.specs.Read.{count_in, count_at, total_at, end_at, role_at, field_at, names}
 use Rattle.book.specs.Index.{mark, kind, count, total, role, field, named, Begins, Lies}
 use Rattle.book.specs.Valid.{Valid}
-use Rattle.book.specs.declared.format.Layout.{Layout}
 
-module _ (l : Layout) (n : ℕ) where
+module _ (l : Fields) (n : ℕ) where
   -- the e-th place of the group's q-th time is one of the group's
   group_inside : (q e : ℕ) → q < n → e < l.eachs → q * l.eachs + e < n * l.eachs
   group_inside q e h g = omega (arith, mul-le-mul_right l.eachs h)
@@ -57,7 +56,7 @@ module _ (l : Layout) (n : ℕ) where
   last_inside k z h = rw (ne_eqb l.last 0 h) (omega arith)
 
 -- a mark's layout
-abbrev pub layout : ℕ → Layout
+abbrev pub layout : ℕ → Fields
 layout m = layout_row (row_of m)
 
 -- how often a mark's group stands, where the fields hold x
@@ -91,7 +90,7 @@ unfolding field_at
 field_before b p k = ap (word_at b) (omega arith)
 
 -- a group's count stands in the head
-count_in_lem : (b : List ℕ) (p : ℕ) (l : Layout) → T (pick (eqb l.eachs 0) true (ltb 0 l.heads)) → count_in b p l ≡ pick (eqb l.eachs 0) 0 (field_at b p (l.heads - 1))
+count_in_lem : (b : List ℕ) (p : ℕ) (l : Fields) → T (pick (eqb l.eachs 0) true (ltb 0 l.heads)) → count_in b p l ≡ pick (eqb l.eachs 0) 0 (field_at b p (l.heads - 1))
 unfolding count_in
 count_in_lem b p l t = go (eqb l.eachs 0) t
   where

@@ -1,6 +1,6 @@
 -- The format of a book: its marks, the fields of each, and the range of each number.
 -- Assumes nothing.
-use Rattle.std.specs.Prelude.{ℕ, ◌+◌, ◌*◌, ◌-◌, ◌%◌, ◌≤◌, Bool, true, List, [], ◌∷◌, ◌++◌, length, get_or, take, replicate, eqb, leb, ltb}
+use Rattle.std.specs.Prelude.{ℕ, ◌+◌, ◌*◌, ◌-◌, ◌%◌, ◌≤◌, Bool, true, List, [], ◌∷◌, length, get_or, eqb, leb, ltb}
 use Rattle.laws.specs.Table.{pick, both, Case, at, choose, among}
 use Rattle.book.specs.declared.format.Layout.{Layout}
 
@@ -248,32 +248,39 @@ row_of m = get_or (row 0 0 0 [] [] 0 ∷ marks) m (row 0 0 0 [] [] 0)
 unfoldable pub kind_of : ℕ → ℕ
 kind_of m = (row_of m).kind
 
--- a list, with zeros up to a length
-abbrev pub padded : ℕ → List ℕ → List ℕ
-padded n xs = take n (xs ++ replicate n 0)
+-- a mark's fields: the roles of the first ones, of the group that stands as often as the last of them says, how many these are, and the role of the last field (0: none)
+pub record Fields : Type 0 where
+  pub heads : ℕ
+  pub head : List ℕ
+  pub eachs : ℕ
+  pub each : List ℕ
+  pub last : ℕ
 
-abbrev pub laid : ℕ → List ℕ → ℕ → List ℕ → ℕ → Layout
-laid hs h es e l = record { heads = hs; head = h; eachs = es; each = e; last = l }
+abbrev pub plan : List ℕ → List ℕ → ℕ → Fields
+plan h e l = record { heads = length h; head = h; eachs = length e; each = e; last = l }
 
--- a mark's fields, as the code has them
-abbrev pub layout_row : Row → Layout
-layout_row r = laid (length r.head) (padded 6 r.head) (length r.each) (padded 2 r.each) r.last
+-- those of a row, and those that the code has
+abbrev pub layout_row : Row → Fields
+layout_row r = plan r.head r.each r.last
 
-unfoldable pub layout_of : ℕ → Layout
+abbrev pub laid : Layout → Fields
+laid l = plan l.head.now l.each.now l.last
+
+unfoldable pub layout_of : ℕ → Fields
 layout_of m = layout_row (row_of m)
 
 -- the role of field k, where the group stands n times
-unfoldable pub role_of : Layout → ℕ → ℕ → ℕ
+unfoldable pub role_of : Fields → ℕ → ℕ → ℕ
 role_of l n k =
     pick (ltb k l.heads) (get_or l.head k 0)
     (pick (ltb (k - l.heads) (n * l.eachs)) (get_or l.each ((k - l.heads) % l.eachs) 0) l.last)
 
 -- how many fields there are, where the group stands n times
-unfoldable pub total_of : Layout → ℕ → ℕ
+unfoldable pub total_of : Fields → ℕ → ℕ
 total_of l n = l.heads + n * l.eachs + pick (eqb l.last 0) 0 1
 
 -- what every mark's layout keeps
-pub record Small (l : Layout) : Type 0 where
+pub record Small (l : Fields) : Type 0 where
   pub heads : l.heads ≤ 6
   pub eachs : l.eachs ≤ 2
 

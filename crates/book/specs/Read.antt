@@ -1,10 +1,9 @@
 -- READ as a function of a book's bytes, in document 01's order of judgement.
 -- Assumes nothing.
-use Rattle.std.specs.Prelude.{ℕ, zero, suc, ◌+◌, ◌*◌, ◌-◌, Bool, true, false, List, [], ◌∷◌, length, get_or, set, replicate, eqb, leb, ltb, Result, Ok, Err}
+use Rattle.std.specs.Prelude.{ℕ, zero, suc, ◌+◌, ◌*◌, ◌-◌, Bool, true, false, not, List, [], ◌∷◌, length, get_or, set, replicate, eqb, leb, ltb, max, Result, Ok, Err}
 use Rattle.laws.specs.Table.{pick, both, below, among, some}
-use Rattle.book.specs.Format.{word_at, mark_of, kind_of, layout_of, role_of, total_of, in_range, TYPE, EXPRESSION, STATEMENT, FUNCTION, END}
+use Rattle.book.specs.Format.{Fields, word_at, mark_of, kind_of, layout_of, role_of, total_of, in_range, TYPE, EXPRESSION, STATEMENT, FUNCTION, END}
 use Rattle.book.specs.Faults.{refusal}
-use Rattle.book.specs.declared.format.Layout.{Layout}
 use Rattle.book.specs.declared.fault.Fault.{Fault}
 use Rattle.book.specs.declared.fault.Fault.TheVariants.{Size, Records, Cut, Mark, Number, Reference, Twice, Depth, Loose}
 use Rattle.book.specs.declared.fault.Refusal.{Refusal}
@@ -16,10 +15,10 @@ mark_at b p = mark_of (word_at b p)
 unfoldable pub kind_at : List ℕ → ℕ → ℕ
 kind_at b p = kind_of (mark_at b p)
 
-abbrev pub layout_at : List ℕ → ℕ → Layout
+abbrev pub layout_at : List ℕ → ℕ → Fields
 layout_at b p = layout_of (mark_at b p)
 
-unfoldable pub count_in : List ℕ → ℕ → Layout → ℕ
+unfoldable pub count_in : List ℕ → ℕ → Fields → ℕ
 count_in b p l = pick (eqb l.eachs 0) 0 (word_at b (p + 2 * l.heads))
 
 unfoldable pub count_at : List ℕ → ℕ → ℕ
@@ -43,30 +42,30 @@ names r x = pick (eqb r END) (pick (eqb x 65535) 0 EXPRESSION) (pick (leb r FUNC
 
 -- a record's fields so far: which expressions and statements were named, and the depth of the deepest record named; or why not
 pub data Verdict : Type 0 where
-  good : List ℕ → ℕ → Verdict
+  good : List Bool → ℕ → Verdict
   bad : Fault → Verdict
 
-abbrev pub and_then : Verdict → (List ℕ → ℕ → Verdict) → Verdict
+abbrev pub and_then : Verdict → (List Bool → ℕ → Verdict) → Verdict
 and_then (good nm d) f = f nm d
 and_then (bad f) g = bad f
 
 -- the deeper of two
 unfoldable pub deeper : ℕ → ℕ → ℕ
-deeper d e = pick (ltb d e) e d
+deeper d e = max d e
 
 -- an expression or statement is named once only
-unfoldable pub once : List ℕ → ℕ → ℕ → Verdict
-once nm x d = pick (eqb (get_or nm x 0) 0) (good (set nm x 1) d) (bad Twice)
+unfoldable pub once : List Bool → ℕ → ℕ → Verdict
+once nm x d = pick (get_or nm x false) (bad Twice) (good (set nm x true) d)
 
 -- document 01, Refusals 6 and 7: what record r names is earlier and of the kind, and not an expression or statement again
-unfoldable pub refer : List ℕ → List ℕ → List ℕ → ℕ → ℕ → ℕ → List ℕ → ℕ → Verdict
+unfoldable pub refer : List ℕ → List ℕ → List ℕ → ℕ → ℕ → ℕ → List Bool → ℕ → Verdict
 refer b i ds r kind x nm d =
     pick (both (ltb x r) (eqb (kind_at b (get_or i x 0)) kind))
     (pick (among (EXPRESSION ∷ STATEMENT ∷ []) kind) (once nm x (deeper d (get_or ds x 0))) (good nm (deeper d (get_or ds x 0))))
     (bad Reference)
 
 -- field k of record r at p: its number in range, then what it names
-unfoldable pub judge : List ℕ → List ℕ → List ℕ → ℕ → ℕ → ℕ → List ℕ → ℕ → Verdict
+unfoldable pub judge : List ℕ → List ℕ → List ℕ → ℕ → ℕ → ℕ → List Bool → ℕ → Verdict
 judge b i ds r p k nm d =
     pick (in_range (role_at b p k) (word_at b (p + 2 * k)) (field_at b p k))
     (pick (eqb (names (role_at b p k) (field_at b p k)) 0) (good nm d)
@@ -74,7 +73,7 @@ judge b i ds r p k nm d =
     (bad Number)
 
 -- the fields from k on, of which so many are left, from left to right
-unfoldable pub fields : List ℕ → List ℕ → List ℕ → ℕ → ℕ → ℕ → ℕ → List ℕ → ℕ → Verdict
+unfoldable pub fields : List ℕ → List ℕ → List ℕ → ℕ → ℕ → ℕ → ℕ → List Bool → ℕ → Verdict
 fields b i ds r p k zero nm d = good nm d
 fields b i ds r p k (suc left) nm d = and_then (judge b i ds r p k nm d) (λ nm d. fields b i ds r p (k + 1) left nm d)
 
@@ -91,10 +90,10 @@ pub record State : Type 0 where
   pub place : ℕ
   pub number : ℕ
   pub index : List ℕ
-  pub named : List ℕ
+  pub named : List Bool
   pub depths : List ℕ
 
-abbrev pub state : ℕ → ℕ → List ℕ → List ℕ → List ℕ → State
+abbrev pub state : ℕ → ℕ → List ℕ → List Bool → List ℕ → State
 state p r i nm ds = record { place = p; number = r; index = i; named = nm; depths = ds }
 
 pub data Moved : Type 0 where
@@ -123,13 +122,13 @@ pub data Outcome : Type 0 where
   refused : Refusal → Outcome
 
 -- an expression or statement that was never named
-unfoldable pub is_unnamed : List ℕ → ℕ → ℕ → Bool
-is_unnamed b p named = both (eqb named 0) (among (EXPRESSION ∷ STATEMENT ∷ []) (kind_at b p))
+unfoldable pub is_unnamed : List ℕ → ℕ → Bool → Bool
+is_unnamed b p named = both (not named) (among (EXPRESSION ∷ STATEMENT ∷ []) (kind_at b p))
 
 -- document 01, Refusal 9: the first such among the records from j on, of which so many stand before the last; else the last, if it is no expression
 unfoldable pub loose : List ℕ → State → ℕ → ℕ → Outcome
 loose b s j zero = pick (eqb (kind_at b (get_or s.index j 0)) EXPRESSION) (done s.number s.index) (refused (refusal Loose j))
-loose b s j (suc left) = pick (is_unnamed b (get_or s.index j 0) (get_or s.named j 0)) (refused (refusal Loose j)) (loose b s (j + 1) left)
+loose b s j (suc left) = pick (is_unnamed b (get_or s.index j 0) (get_or s.named j false)) (refused (refusal Loose j)) (loose b s (j + 1) left)
 
 -- document 01, Refusal 2: record by record, where so many more may begin
 unfoldable pub records : ℕ → List ℕ → State → Outcome
@@ -143,7 +142,7 @@ records (suc more) b s = elim (ltb s.place (length b)) [
 ]
 
 abbrev pub start : State
-start = state 0 0 (replicate 4096 0) (replicate 4096 0) (replicate 4096 0)
+start = state 0 0 (replicate 4096 0) (replicate 4096 false) (replicate 4096 0)
 
 -- document 01, Refusal 1: a book of 1 to 65,535 bytes
 unfoldable pub sized : ℕ → Bool

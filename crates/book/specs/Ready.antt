@@ -1,17 +1,14 @@
 -- What READ's parts ask of the rows that they are lent, and how their answers say what READ does.
 -- Assumes nothing.
-use Rattle.book.specs.declared.fault.Refusal.{Refusal}
-use Rattle.std.specs.Prelude.{ℕ, ◌+◌, ◌*◌, ◌-◌, ◌%◌, ◌≤◌, ◌<◌, ◌≡◌, List, length, get_or, set, eqb, ltb, Result, Ok, Err}
+use Rattle.std.specs.Prelude.{ℕ, ◌+◌, ◌*◌, ◌-◌, ◌%◌, ◌≤◌, ◌<◌, ◌≡◌, Bool, false, List, length, get_or, set, replicate, eqb, ltb, Option, Some, None, Result, Ok, Err}
 use Rattle.laws.specs.Table.{pick}
 use Rattle.book.specs.Format.{word_at, TYPE, TU}
 use Rattle.book.specs.Read.{mark_at, kind_at, count_at, end_at, Verdict, good, bad, state, Moved, on, stop, Outcome, done, refused}
 use Rattle.book.specs.declared.fault.Fault.TheVariants.{Cut, Mark}
+use Rattle.book.specs.declared.fault.Fault.{Fault}
+use Rattle.book.specs.declared.fault.Refusal.{Refusal}
 use Rattle.book.specs.declared.read.Frame.{Frame}
-use Rattle.book.specs.declared.read.Frame.TheVariants as frames
-use Rattle.book.specs.declared.read.Judged.{Judged}
-use Rattle.book.specs.declared.read.Judged.TheVariants as judgeds
-use Rattle.book.specs.declared.read.Next.{Next}
-use Rattle.book.specs.declared.read.Next.TheVariants as nexts
+use Rattle.book.specs.declared.read.Reader.{Reader}
 
 -- a record with a known mark begins at p and ends inside the book
 pub record Framed (b : List ℕ) (p : ℕ) : Type 0 where
@@ -34,7 +31,7 @@ pub record Rows (b i : List ℕ) (r : ℕ) : Type 0 where
   pub inside : (j : ℕ) → j < r → Framed b (get_or i j 0)
 
 -- and each other row has an entry for every record there may be
-pub record Ready (b i nm ds : List ℕ) (r : ℕ) : Type 0 where
+pub record Ready (b i : List ℕ) (nm : List Bool) (ds : List ℕ) (r : ℕ) : Type 0 where
   pub rows : Rows b i r
   pub noted : length nm ≡ 4096
   pub deep : length ds ≡ 4096
@@ -59,27 +56,49 @@ pub record Chained (b i cs : List ℕ) (r : ℕ) : Type 0 where
 unfoldable pub joined : List ℕ → List ℕ → ℕ → ℕ → List ℕ
 joined b cs r p = pick (eqb (kind_at b p) TYPE) (set (set cs r (get_or cs (chain_of b p) 0)) (chain_of b p) (r + 1)) cs
 
+-- READ's rows; before the first record they are zero
+abbrev pub reader : List ℕ → List Bool → List ℕ → List ℕ → Reader
+reader i nm ds cs = record { index = i; named = nm; depths = ds; chains = cs }
+
+abbrev pub nothing : Reader
+nothing = reader (replicate 4096 0) (replicate 4096 false) (replicate 4096 0) (replicate 5120 0)
+
+-- judging a field changes no row but the one of what was named
+pub record OthersKept (s t : Reader) : Type 0 where
+  pub index : t.index ≡ s.index
+  pub depths : t.depths ≡ s.depths
+  pub chains : t.chains ≡ s.chains
+  pub named : length t.named ≡ length s.named
+
 -- an answer that goes on leaves record r in the chains too
-abbrev pub Carried : Next → List ℕ → List ℕ → List ℕ → ℕ → Type 0
-Carried (nexts.At p) b i cs r = Chained b i cs (r + 1)
-Carried (nexts.Bad f) b i cs r = Unit {0}
+abbrev pub Carried : Result ℕ Fault → List ℕ → List ℕ → List ℕ → ℕ → Type 0
+Carried (Ok p) b i cs r = Chained b i cs (r + 1)
+Carried (Err f) b i cs r = Unit {0}
+
+-- a record's mark, how often its group stands and where it ends
+abbrev pub frame : ℕ → ℕ → ℕ → Frame
+frame m n e = record { mark = m; count = n; end = e }
 
 -- what is known of the record at p once its mark is known; once its letters are read
-unfoldable pub frame_from : List ℕ → ℕ → Frame
-frame_from b p = pick (ltb (length b) (end_at b p)) (frames.Bad Cut) (frames.Of (mark_at b p) (count_at b p) (end_at b p))
+unfoldable pub frame_from : List ℕ → ℕ → Result Frame Fault
+frame_from b p = pick (ltb (length b) (end_at b p)) (Err Cut) (Ok (frame (mark_at b p) (count_at b p) (end_at b p)))
 
-unfoldable pub frame_of : List ℕ → ℕ → Frame
-frame_of b p = pick (ltb (length b) (p + 2)) (frames.Bad Cut) (pick (eqb (mark_at b p) 0) (frames.Bad Mark) (frame_from b p))
+unfoldable pub frame_of : List ℕ → ℕ → Result Frame Fault
+frame_of b p = pick (ltb (length b) (p + 2)) (Err Cut) (pick (eqb (mark_at b p) 0) (Err Mark) (frame_from b p))
+
+-- the kind that is named, where 0 is none
+abbrev pub named_of : ℕ → Option ℕ
+named_of kd = pick (eqb kd 0) None (Some kd)
 
 -- an answer beside the row of names that it left
-abbrev pub verdict_of : Judged → List ℕ → Verdict
-verdict_of (judgeds.Good d) nm = good nm d
-verdict_of (judgeds.Bad f) nm = bad f
+abbrev pub verdict_of : Result ℕ Fault → List Bool → Verdict
+verdict_of (Ok d) nm = good nm d
+verdict_of (Err f) nm = bad f
 
 -- an answer beside the rows that it left, for record r
-abbrev pub moved_of : Next → ℕ → List ℕ → List ℕ → List ℕ → Moved
-moved_of (nexts.At p) r i nm ds = on (state p (r + 1) i nm ds)
-moved_of (nexts.Bad f) r i nm ds = stop f
+abbrev pub moved_of : Result ℕ Fault → ℕ → List ℕ → List Bool → List ℕ → Moved
+moved_of (Ok p) r i nm ds = on (state p (r + 1) i nm ds)
+moved_of (Err f) r i nm ds = stop f
 
 -- an answer beside the index that it left
 abbrev pub outcome_of : Result ℕ Refusal → List ℕ → Outcome

@@ -4,9 +4,9 @@ ghost use Rattle.book.specs.Faults.{fault_number, numbers_of};
 
 // What was wrong: document 01, Refusals by number, in its order. TYPE is `Ty`, since `Type` is a word of
 // the language of the proofs.
-#[derive(Clone, Copy)]
+#[derive(Clone, Copy, PartialEq, Eq)]
 pub enum Fault {
-    Size,
+    Size = 1,
     Records,
     Cut,
     Mark,
@@ -29,7 +29,7 @@ pub enum Fault {
 }
 
 // What was wrong, and where.
-#[derive(Clone, Copy)]
+#[derive(Clone, Copy, PartialEq, Eq)]
 pub struct Refusal {
     pub fault: Fault,
     pub place: u16,
@@ -39,32 +39,11 @@ pub struct Refusal {
 pub fn fault_number(fault: Fault) -> u8
     ensures { result ≡ fault_number fault }
 {
-    match fault {
-        Fault::Size => 1,
-        Fault::Records => 2,
-        Fault::Cut => 3,
-        Fault::Mark => 4,
-        Fault::Number => 5,
-        Fault::Reference => 6,
-        Fault::Twice => 7,
-        Fault::Depth => 8,
-        Fault::Loose => 9,
-        Fault::Undefined => 10,
-        Fault::Room => 11,
-        Fault::Bindings => 12,
-        Fault::Ty => 13,
-        Fault::Name => 14,
-        Fault::Nodes => 15,
-        Fault::Steep => 16,
-        Fault::Witness => 17,
-        Fault::Cells => 18,
-        Fault::Stuck => 19,
-        Fault::Jet => 20,
-    }
+    fault as u8
 }
 
 // An answer as document 01 gives it: number, place and count.
-#[derive(Clone, Copy)]
+#[derive(Clone, Copy, PartialEq, Eq)]
 pub struct Numbers {
     pub number: u8,
     pub place: u16,
@@ -81,9 +60,9 @@ pub fn numbers_of(answer: Result<u16, Refusal>) -> Numbers
             place: 0,
             count,
         },
-        Err(Refusal { fault, place }) => Numbers {
-            number: fault_number(fault),
-            place,
+        Err(why) => Numbers {
+            number: fault_number(why.fault),
+            place: why.place,
             count: 0,
         },
     }

@@ -1,6 +1,6 @@
 // The format: marks and kinds by number, the layout of a mark's fields, the range of a number.
 ghost use Rattle.std.specs.Prelude.{◌≡◌, ◌<◌, ◌≤◌};
-ghost use Rattle.book.specs.Format.{mark_of, kind_of, laid, layout_of, role_of, total_of, Small, within, power_in, in_range};
+ghost use Rattle.book.specs.Format.{mark_of, kind_of, plan, laid, layout_of, role_of, total_of, Small, within, power_in, in_range};
 
 // Marks, numbered from 1 in the order of document 01's table.
 pub const TU: u8 = 1;
@@ -112,6 +112,7 @@ pub const BITS: u8 = 15;
 pub const END: u8 = 16;
 
 // A mark's number by its two letters, 0 where there is no such mark.
+#[tactic(auto, unfolding(crate::specs::Format::mark_of))]
 pub fn mark_of(word: u16) -> u8
     ensures { result ≡ mark_of word }
 {
@@ -158,6 +159,7 @@ pub fn mark_of(word: u16) -> u8
 }
 
 // The kind of a mark's records, 0 for no mark.
+#[tactic(auto, unfolding(crate::specs::Format::kind_of))]
 pub fn kind_of(mark: u8) -> u8
     ensures { result ≡ kind_of mark }
 {
@@ -173,141 +175,88 @@ pub fn kind_of(mark: u8) -> u8
     }
 }
 
-// The roles of a record's fields: `heads` of them, then a group of `eachs` as often as the last of
-// the head says, then one more unless `last` is 0.
+// The roles of a record's fields: the head, then a group as often as the last of the head says, then
+// one more unless `last` is 0, which is no role: `role_of` would have to give one for `None` too.
 #[derive(Clone, Copy)]
 pub struct Layout {
-    pub heads: usize,
-    pub head: [u8; 6],
-    pub eachs: usize,
-    pub each: [u8; 2],
+    pub head: &'static [u8],
+    pub each: &'static [u8],
     pub last: u8,
 }
 
-fn lay(heads: usize, head: [u8; 6], eachs: usize, each: [u8; 2], last: u8) -> Layout
-    ensures { result ≡ laid heads head eachs each last }
+fn lay(head: &'static [u8], each: &'static [u8], last: u8) -> Layout
+    ensures { laid result ≡ plan head.now each.now last }
 {
-    Layout {
-        heads: heads,
-        head: head,
-        eachs: eachs,
-        each: each,
-        last: last,
-    }
+    Layout { head, each, last }
 }
 
 // The layout of a mark's fields.
+#[tactic(auto, unfolding(crate::specs::Format::layout_of))]
 pub fn layout_of(mark: u8) -> Layout
-    ensures { result ≡ layout_of mark }
+    ensures { laid result ≡ layout_of mark }
 {
     match mark {
-        TS..=TP => lay(2, [TYPE, TYPE, 0, 0, 0, 0], 0, [0, 0], 0),
-        VU => lay(1, [TYPE, 0, 0, 0, 0, 0], 0, [0, 0], 0),
-        VL..=VR => lay(2, [TYPE, VALUE, 0, 0, 0, 0], 0, [0, 0], 0),
-        VP => lay(3, [TYPE, VALUE, VALUE, 0, 0, 0], 0, [0, 0], 0),
-        PI => lay(1, [NAME, 0, 0, 0, 0, 0], 0, [0, 0], 0),
-        PT => lay(1, [COUNT, 0, 0, 0, 0, 0], 1, [PATTERN, 0], 0),
-        EC => lay(2, [TYPE, VALUE, 0, 0, 0, 0], 0, [0, 0], 0),
-        EW..=EV => lay(2, [TYPE, NAME, 0, 0, 0, 0], 0, [0, 0], 0),
-        ET => lay(2, [TYPE, COUNT, 0, 0, 0, 0], 1, [EXPRESSION, 0], 0),
-        EL => lay(3, [TYPE, BOUND, UNDER, 0, 0, 0], 1, [EXPRESSION, 0], 0),
-        E0..=E1 => lay(2, [TYPE, EXPRESSION, 0, 0, 0, 0], 0, [0, 0], 0),
-        EN => lay(
-            4,
-            [TYPE, NAME, VARIANTS, COUNT, 0, 0],
-            1,
-            [EXPRESSION, 0],
-            0,
-        ),
-        EB => lay(2, [TYPE, COUNT, 0, 0, 0, 0], 1, [STATEMENT, 0], END),
-        SA => lay(2, [PATTERN, EXPRESSION, 0, 0, 0, 0], 0, [0, 0], 0),
-        SE => lay(1, [EXPRESSION, 0, 0, 0, 0, 0], 0, [0, 0], 0),
+        TS..=TP => lay(&[TYPE, TYPE], &[], 0),
+        VU => lay(&[TYPE], &[], 0),
+        VL..=VR => lay(&[TYPE, VALUE], &[], 0),
+        VP => lay(&[TYPE, VALUE, VALUE], &[], 0),
+        PI => lay(&[NAME], &[], 0),
+        PT => lay(&[COUNT], &[PATTERN], 0),
+        EC => lay(&[TYPE, VALUE], &[], 0),
+        EW..=EV => lay(&[TYPE, NAME], &[], 0),
+        ET => lay(&[TYPE, COUNT], &[EXPRESSION], 0),
+        EL => lay(&[TYPE, BOUND, UNDER], &[EXPRESSION], 0),
+        E0..=E1 => lay(&[TYPE, EXPRESSION], &[], 0),
+        EN => lay(&[TYPE, NAME, VARIANTS, COUNT], &[EXPRESSION], 0),
+        EB => lay(&[TYPE, COUNT], &[STATEMENT], END),
+        SA => lay(&[PATTERN, EXPRESSION], &[], 0),
+        SE => lay(&[EXPRESSION], &[], 0),
         EM => lay(
-            6,
-            [TYPE, EXPRESSION, PATTERN, EXPRESSION, PATTERN, EXPRESSION],
-            0,
-            [0, 0],
+            &[TYPE, EXPRESSION, PATTERN, EXPRESSION, PATTERN, EXPRESSION],
+            &[],
             0,
         ),
-        EH => lay(
-            3,
-            [TYPE, EXPRESSION, SOME, 0, 0, 0],
-            2,
-            [PATTERN, EXPRESSION],
-            0,
-        ),
-        CJ => lay(4, [TYPE, NAME, JET, COUNT, 0, 0], 1, [EXPRESSION, 0], 0),
-        CL..=CA => lay(3, [TYPE, NAME, EXPRESSION, 0, 0, 0], 0, [0, 0], 0),
-        CP => lay(2, [TYPE, NAME, 0, 0, 0, 0], 0, [0, 0], 0),
-        CN..=CK => lay(2, [TYPE, EXPRESSION, 0, 0, 0, 0], 0, [0, 0], 0),
-        CF => lay(3, [TYPE, FUNCTION, COUNT, 0, 0, 0], 1, [EXPRESSION, 0], 0),
-        CQ => lay(
-            5,
-            [TYPE, FUNCTION, BOUND, EXPRESSION, EXPRESSION, 0],
-            0,
-            [0, 0],
-            0,
-        ),
-        CY => lay(
-            5,
-            [TYPE, FUNCTION, SOME, EXPRESSION, EXPRESSION, 0],
-            0,
-            [0, 0],
-            0,
-        ),
-        CW => lay(
-            5,
-            [TYPE, FUNCTION, WIDTH, EXPRESSION, EXPRESSION, 0],
-            0,
-            [0, 0],
-            0,
-        ),
-        CH => lay(3, [TYPE, NAME, COUNT, 0, 0, 0], 2, [BITS, EXPRESSION], 0),
-        FN => lay(2, [TYPE, COUNT, 0, 0, 0, 0], 2, [NAME, TYPE], EXPRESSION),
-        _ => lay(0, [0, 0, 0, 0, 0, 0], 0, [0, 0], 0),
+        EH => lay(&[TYPE, EXPRESSION, SOME], &[PATTERN, EXPRESSION], 0),
+        CJ => lay(&[TYPE, NAME, JET, COUNT], &[EXPRESSION], 0),
+        CL..=CA => lay(&[TYPE, NAME, EXPRESSION], &[], 0),
+        CP => lay(&[TYPE, NAME], &[], 0),
+        CN..=CK => lay(&[TYPE, EXPRESSION], &[], 0),
+        CF => lay(&[TYPE, FUNCTION, COUNT], &[EXPRESSION], 0),
+        CQ => lay(&[TYPE, FUNCTION, BOUND, EXPRESSION, EXPRESSION], &[], 0),
+        CY => lay(&[TYPE, FUNCTION, SOME, EXPRESSION, EXPRESSION], &[], 0),
+        CW => lay(&[TYPE, FUNCTION, WIDTH, EXPRESSION, EXPRESSION], &[], 0),
+        CH => lay(&[TYPE, NAME, COUNT], &[BITS, EXPRESSION], 0),
+        FN => lay(&[TYPE, COUNT], &[NAME, TYPE], EXPRESSION),
+        _ => lay(&[], &[], 0),
     }
 }
 
 // The role of field k, where the group stands n times.
+#[tactic(auto, unfolding(crate::specs::Format::role_of))]
 pub fn role_of(l: Layout, n: usize, k: usize) -> u8
-    requires small { Small l }
+    requires small { Small (laid l) }
     requires n_in_range { n < 65536 }
-    ensures { result ≡ role_of l n k }
+    ensures { result ≡ role_of (laid l) n k }
 {
-    let heads = l.heads;
-    let eachs = l.eachs;
+    let heads = l.head.len();
+    let eachs = l.each.len();
     if k < heads {
-        return l.head[k];
+        l.head[k]
+    } else if k - heads < n * eachs {
+        l.each[(k - heads) % eachs]
+    } else {
+        l.last
     }
-    let j = k - heads;
-    if j < n * eachs {
-        let e = j % eachs;
-        return l.each[e];
-    }
-    l.last
 }
 
 // How many fields there are, where the group stands n times.
+#[tactic(auto, unfolding(crate::specs::Format::total_of))]
 pub fn total_of(l: Layout, n: usize) -> usize
-    requires small { Small l }
+    requires small { Small (laid l) }
     requires n_in_range { n < 65536 }
-    ensures { result ≡ total_of l n }
+    ensures { result ≡ total_of (laid l) n }
 {
-    let last = l.last;
-    if last == 0 {
-        return l.heads + n * l.eachs;
-    }
-    l.heads + n * l.eachs + 1
-}
-
-// A number between two ends, both counted in.
-fn between(lo: u16, hi: u16, x: u16) -> bool
-    ensures { result ≡ within lo hi x }
-{
-    if x < lo {
-        return false;
-    }
-    x <= hi
+    l.head.len() + n * l.each.len() + usize::from(l.last != 0)
 }
 
 // A power of two between two ends, both counted in.
@@ -315,25 +264,18 @@ fn power_in(lo: u16, hi: u16, x: u16) -> bool
     requires { hi ≤ 256 }
     ensures { result ≡ power_in lo hi x }
 {
-    if between(lo, hi, x) {
-        return u32::count_ones(x as u32) == 1;
-    }
-    false
+    (lo..=hi).contains(&x) && x.is_power_of_two()
 }
 
 // Whether a field may hold the number x, where the field before it holds `before`.
+#[tactic(auto, unfolding(crate::specs::Format::in_range))]
 pub fn in_range(role: u8, before: u16, x: u16) -> bool
     ensures { result ≡ in_range role before x }
 {
     match role {
         COUNT => x <= 256,
-        SOME => between(1, 256, x),
-        VARIANTS => {
-            if x <= before {
-                return false;
-            }
-            x <= 256
-        }
+        SOME => (1..=256).contains(&x),
+        VARIANTS => before < x && x <= 256,
         BOUND => power_in(2, 256, x),
         UNDER => x < before,
         JET => x <= 2,

@@ -3,10 +3,11 @@
 use native.Mathlib.Omega.{arith}
 use Prim.Native.Nat.{ℕ, ◌≤◌, ◌<◌}
 use mathlib.Core.Bool.{Bool, true, false}
-use mathlib.Core.Path.{◌≡◌, refl, sym, ◌∙◌}
+use mathlib.Core.Path.{◌≡◌, refl, ◌∙◌}
 use lib.Dec.{T, eqb, leb, leb→le}
 use lib.Count.{ones}
-use Rattle.laws.specs.Table.{among, all_below, both_right}
+use Rattle.std.proofs.lemmas.Bool.Decides.{nat_tests}
+use Rattle.laws.specs.Table.{among, all_below, both, both_right}
 use Rattle.book.specs.Format.{power_in, powers, within}
 use Rattle.book.proofs.format.power_in.Goals as goal
 
@@ -26,18 +27,17 @@ one_bit : (x : ℕ) → x < 257 → eqb (ones x) 1 ≡ among powers x
 unfolding ones same
 one_bit x h = same_is (eqb (ones x) 1) (among powers x) (all_below (λ k. same (eqb (ones k) 1) (among powers k)) 257 tt x h)
 
-ends : (lo hi x : ℕ) → within lo hi x ≡ true → x ≤ hi
-unfolding within
+ends : (lo hi x : ℕ) → both (leb lo x) (leb x hi) ≡ true → x ≤ hi
 ends lo hi x e = leb→le x hi (both_right (leb lo x) (leb x hi) (rw e tt))
 
-pub returns-then-between : goal.returns-then-between
-unfolding power_in
-returns-then-between c =
-    let e : within c.args.lo c.args.hi c.args.x ≡ true = sym c.between.ensures ∙ c.if-between.true in
-    rw e (one_bit c.args.x (omega (arith, ends c.args.lo c.args.hi c.args.x e)))
+pub returns-then-contains : goal.returns-then-contains
+unfolding power_in within
+returns-then-contains c =
+    let e : both (leb c.args.lo c.args.x) (leb c.args.x c.args.hi) ≡ true = grind (arith, nat_tests) in
+    rw e (c.is_power_of_two.ensures ∙ one_bit c.args.x (omega (arith, ends c.args.lo c.args.hi c.args.x e)))
 
-pub returns : goal.returns
-unfolding power_in
-returns c =
-    let e : within c.args.lo c.args.hi c.args.x ≡ false = sym c.between.ensures ∙ c.if-between.false in
-    rw e
+pub returns-else-contains : goal.returns-else-contains
+unfolding power_in within
+returns-else-contains c =
+    let e : both (leb c.args.lo c.args.x) (leb c.args.x c.args.hi) ≡ false = grind (arith, nat_tests) in
+    rw e c.if-contains.false

@@ -1,73 +1,38 @@
 -- `read::frame_from` meets its contract: a cut head is a cut record.
 -- Assumes nothing.
 use Prim.Native.Nat.{◌+◌, ◌*◌}
-use Rattle.book.proofs.Frames.{total_fits, head_within, cut_frame, whole_frame, count_is, end_is}
-use Rattle.book.proofs.Layouts.{small_of}
-use Rattle.book.specs.Format.{Small, layout_of}
-use Rattle.book.specs.Read.{layout_at, end_at}
-use Rattle.book.specs.declared.format.Layout.{Layout}
-use mathlib.Core.Path.{◌≡◌, ap, ◌∙◌}
+use Rattle.book.proofs.Frames.{small_is, layout_is, total_fits, cut_head, cut_frame, whole_frame, count_is, end_is}
+use mathlib.Core.Path.{◌≡◌}
 use native.Mathlib.Omega.{arith}
+use Rattle.book.specs.Read.{end_at}
 use Rattle.book.proofs.read.frame_from.Goals as goal
 
-pub overflow_mul-heads : goal.overflow_mul-heads
-overflow_mul-heads c =
-    let l = c.layout_of-layout.result in
-    let w : Small l = rw c.layout_of-layout.ensures (small_of c.args.mark) in
-    let is : l ≡ layout_at c.args.book.now c.args.at = c.layout_of-layout.ensures ∙ ap layout_of c.requires.mark_is in
-    omega arith
+pub overflow_mul-layout : goal.overflow_mul-layout
+overflow_mul-layout c = omega (arith, (small_is _ _ c.layout_of-layout.ensures).heads)
 
 pub overflow_add-at-2 : goal.overflow_add-at-2
-overflow_add-at-2 c =
-    let l = c.layout_of-layout.result in
-    let w : Small l = rw c.layout_of-layout.ensures (small_of c.args.mark) in
-    let is : l ≡ layout_at c.args.book.now c.args.at = c.layout_of-layout.ensures ∙ ap layout_of c.requires.mark_is in
-    omega arith
+overflow_add-at-2 c = omega (arith, (small_is _ _ c.layout_of-layout.ensures).heads)
 
 pub returns-then-book-at : goal.returns-then-book-at
-returns-then-book-at c =
-    let l = c.layout_of-layout.result in
-    let w : Small l = rw c.layout_of-layout.ensures (small_of c.args.mark) in
-    let is : l ≡ layout_at c.args.book.now c.args.at = c.layout_of-layout.ensures ∙ ap layout_of c.requires.mark_is in
-    cut_frame c.args.book.now c.args.at (omega (arith, head_within c.args.book.now c.args.at, ap (λ (x : Layout). x.heads) is))
+returns-then-book-at c = cut_head _ _ _ (layout_is _ _ _ _ c.layout_of-layout.ensures c.requires.mark_is) c.if-book-at.true
 
-pub total_of-requires : goal.total_of-requires
-total_of-requires c =
-    let l = c.layout_of-layout.result in
-    let w : Small l = rw c.layout_of-layout.ensures (small_of c.args.mark) in
-    let is : l ≡ layout_at c.args.book.now c.args.at = c.layout_of-layout.ensures ∙ ap layout_of c.requires.mark_is in
-    record { small = w; n_in_range = c.count_in-count.ensures.1 }
+pub total_of-requires-clause-small : goal.total_of-requires-clause-small
+total_of-requires-clause-small c = small_is _ _ c.layout_of-layout.ensures
 
 pub overflow_mul-end : goal.overflow_mul-end
-overflow_mul-end c =
-    let l = c.layout_of-layout.result in
-    let w : Small l = rw c.layout_of-layout.ensures (small_of c.args.mark) in
-    let is : l ≡ layout_at c.args.book.now c.args.at = c.layout_of-layout.ensures ∙ ap layout_of c.requires.mark_is in
-    omega (arith, total_fits l _ w c.count_in-count.ensures.1, c.total_of.ensures)
+overflow_mul-end c = omega (arith, total_fits _ _ (small_is _ _ c.layout_of-layout.ensures) c.count_in-count.ensures.1, c.total_of.ensures)
 
 pub overflow_add-end-2 : goal.overflow_add-end-2
-overflow_add-end-2 c =
-    let l = c.layout_of-layout.result in
-    let w : Small l = rw c.layout_of-layout.ensures (small_of c.args.mark) in
-    let is : l ≡ layout_at c.args.book.now c.args.at = c.layout_of-layout.ensures ∙ ap layout_of c.requires.mark_is in
-    omega (arith, total_fits l _ w c.count_in-count.ensures.1, c.total_of.ensures)
+overflow_add-end-2 c = omega (arith, total_fits _ _ (small_is _ _ c.layout_of-layout.ensures) c.count_in-count.ensures.1, c.total_of.ensures)
 
 pub returns-then-book-end : goal.returns-then-book-end
 returns-then-book-end c =
-    let l = c.layout_of-layout.result in
-    let w : Small l = rw c.layout_of-layout.ensures (small_of c.args.mark) in
-    let is : l ≡ layout_at c.args.book.now c.args.at = c.layout_of-layout.ensures ∙ ap layout_of c.requires.mark_is in
-    let n = c.count_in-count.result in
-    let q = c.count_in-count.ensures in
-    let e : c.args.at + 2 + 2 * c.total_of.result ≡ end_at c.args.book.now c.args.at = end_is c.args.book.now c.args.at l is n c.total_of.result q.0 c.total_of.ensures in
-    cut_frame c.args.book.now c.args.at (omega arith)
+    let is = layout_is _ _ _ _ c.layout_of-layout.ensures c.requires.mark_is in
+    let e : c.args.at + 2 + 2 * c.total_of.result ≡ end_at c.args.book.now c.args.at = end_is _ _ _ is _ _ c.count_in-count.ensures.0 c.total_of.ensures in
+    cut_frame _ _ (omega arith)
 
 pub returns : goal.returns
 returns c =
-    let l = c.layout_of-layout.result in
-    let w : Small l = rw c.layout_of-layout.ensures (small_of c.args.mark) in
-    let is : l ≡ layout_at c.args.book.now c.args.at = c.layout_of-layout.ensures ∙ ap layout_of c.requires.mark_is in
-    let n = c.count_in-count.result in
-    let q = c.count_in-count.ensures in
-    let e : c.args.at + 2 + 2 * c.total_of.result ≡ end_at c.args.book.now c.args.at = end_is c.args.book.now c.args.at l is n c.total_of.result q.0 c.total_of.ensures in
-    rw (c.requires.mark_is, count_is c.args.book.now c.args.at l is n q.0, e) (whole_frame c.args.book.now c.args.at (omega arith))
+    let is = layout_is _ _ _ _ c.layout_of-layout.ensures c.requires.mark_is in
+    let e : c.args.at + 2 + 2 * c.total_of.result ≡ end_at c.args.book.now c.args.at = end_is _ _ _ is _ _ c.count_in-count.ensures.0 c.total_of.ensures in
+    rw (c.requires.mark_is, count_is _ _ _ is _ c.count_in-count.ensures.0, e) (whole_frame _ _ (omega arith))
