@@ -45,7 +45,7 @@ pub fn place(book: &Book, m: u8, t: u16, n: u32, k: u32) -> Option<u16>
     let mut at = t;
     let mut count = n;
     let mut left = k;
-    // How often it turns depends on where the place is.
+    // How many turns there are depends on the place, so that no range counts them.
     while 1 < count {
         let half = split(count);
         if left < half {
@@ -87,6 +87,7 @@ pub fn halved(book: &Book, t: u16, n: u32) -> Option<u16>
 {
     let mut at = t;
     let mut count = n;
+    // The count is halved, as the promise has it: a range would need its logarithm.
     while 1 < count {
         let part = side(book, TP, at, 0)?;
         if side(book, TP, at, 1) != Some(part) {
@@ -143,7 +144,7 @@ pub fn is_list(book: &Book, t: u16, bound: u32, element: u16) -> bool
 {
     let mut at = t;
     let mut half = bound / 2;
-    // What is halved each time is also what a block has: a range would not say it.
+    // The half is also what each block has, so that no range says the same.
     while 1 < half {
         if book.mark_at(at) != TP {
             return false;
@@ -165,6 +166,7 @@ pub fn element_of(book: &Book, t: u16, bound: u32) -> Option<u16>
 {
     let mut at = t;
     let mut half = bound / 2;
+    // As in is_list, block by block.
     while 1 < half {
         at = side(book, TP, at, 1)?;
         half /= 2;

@@ -139,7 +139,7 @@ fn block(book: &Book, r: u16, t: u16) -> bool
     type_of(book, end) == t
 }
 
-// A match of two arms: both are of its type.
+// A match of two arms: both are of its type. Its parts are lowered apart, so `span_of` has no row for it.
 fn two_arms(book: &Book, r: u16, t: u16) -> bool
     requires { Declares book.now.bytes book.now.index r EM t }
     ensures { result ≡ whole (expr_of book.now.bytes book.now.index r) }

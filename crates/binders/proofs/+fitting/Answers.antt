@@ -1,8 +1,8 @@
 -- `fits` and `fits_row` meet their contracts: by the pattern's mark, and what is marked fits; each element before k fits at its place.
 -- Assumes nothing.
-use mathlib.Core.Path.{refl, sym, ◌∙◌}
+use mathlib.Core.Path.{refl}
 use native.Mathlib.Omega.{arith}
-use Rattle.book.proofs.Standing.{stands_begins, stands_few}
+use Rattle.book.proofs.Standing.{stands_begins}
 use Rattle.pattern.proofs.Records.{row_count, row_lies, row_part}
 use Rattle.shapes.proofs.Same.{gives_stands}
 use Rattle.binders.proofs.Fitting.{fitted_other, fitted_known, fitted_empty, fitted_marked, fitting_none, fitting_all, fitting_nowhere, fitting_not, fitting_next}
@@ -15,17 +15,8 @@ fits-mark_at-requires t c = search stands_begins
 pub fits-returns-then-mark_at-ne-PT : goal.fits-returns-then-mark_at-ne-PT
 fits-returns-then-mark_at-ne-PT t c = fitted_other c.requires.1.1 c.requires.0 _ c.mark_at.ensures c.if-mark_at-ne-PT.true
 
-pub fits-known-requires : goal.fits-known-requires
-fits-known-requires t c = omega (arith, stands_few c.requires.0)
-
 pub fits-returns-then-known : goal.fits-returns-then-known
 fits-returns-then-known t c = fitted_known c.requires.1.1 _ _ c.known.ensures c.if-known.true
-
-pub fits-fits_row-requires : goal.fits-fits_row-requires
-fits-fits_row-requires t c = (search rules, (c.requires.0, (sym c.mark_at.ensures ∙ c.if-mark_at-ne-PT.false, (c.requires.1.0, c.requires.1.1))))
-
-pub fits-mark-requires : goal.fits-mark-requires
-fits-mark-requires t c = omega (arith, stands_few c.requires.0)
 
 pub fits-returns-then-fits_row : goal.fits-returns-then-fits_row
 fits-returns-then-fits_row t c = fitted_marked c.fits_row.ensures c.if-fits_row.true c.mark.ensures
@@ -44,9 +35,6 @@ fits_row-loop-k-init t c = fitting_none c.requires.1.1.1 c.requires.0 _ c.requir
 
 pub fits_row-field_at-part-requires : goal.fits_row-field_at-part-requires
 fits_row-field_at-part-requires t c = search row_lies
-
-pub fits_row-place-requires : goal.fits_row-place-requires
-fits_row-place-requires t c = record { stands = c.requires.1.1.0; sort = tt; k_in_range = search rules; n_in_range = c.loop-k.invariant.few }
 
 pub fits_row-returns-in_default : goal.fits_row-returns-in_default
 fits_row-returns-in_default t c = fitting_nowhere c.loop-k.invariant c.loop-k-test.true c.in_default.ensures

@@ -2,26 +2,19 @@
 -- Assumes nothing.
 use mathlib.Core.Path.{refl, sym, ◌∙◌}
 use native.Mathlib.Omega.{arith}
-use lib.ListN.{length-set}
 use borrow.Author.Rules.{rules}
 use Rattle.book.proofs.Standing.{stands_begins}
 use Rattle.pattern.proofs.Records.{name_lies, row_count, row_lies, row_part}
 use Rattle.binders.proofs.Names.{names_row_lem, names_one, names_none}
-use Rattle.binders.proofs.Tallies.{nameless_more, nameless_fits, notes_none, meets_none, meets_named, meets_nameless, meets_twice, meets_more, meets_same}
+use Rattle.binders.proofs.Tallies.{nameless_more, notes_none, meets_none, meets_named, meets_nameless, meets_twice, meets_more, meets_same}
 use Rattle.binders.proofs.+noting.Goals as goal
 use Rattle.binders.proofs.+noting.Goals.{note_row-in-Named, note_row-in-Unnamed}
-
-pub note_all-bounds-nameless-p : goal.note_all-bounds-nameless-p
-note_all-bounds-nameless-p t c = search nameless_fits
 
 pub note_all-returns-then-nameless-p-eq1 : goal.note_all-returns-then-nameless-p-eq1
 note_all-returns-then-nameless-p-eq1 t c = record { nameless = search rules; notes = notes_none c.requires.1.0 (c.requires.1.1.sound _ c.if-nameless-p-eq1.true) }
 
 pub note_all-mark_at-mark-requires : goal.note_all-mark_at-mark-requires
 note_all-mark_at-mark-requires t c = search stands_begins
-
-pub note_all-note_row-requires : goal.note_all-note_row-requires
-note_all-note_row-requires t c = (search rules, (search rules, (sym c.mark_at-mark.ensures ∙ c.if-mark-eq-PT.true, search rules)))
 
 pub note_all-field_at-name-requires : goal.note_all-field_at-name-requires
 note_all-field_at-name-requires t c = name_lies (search rules) _ c.mark_at-mark.ensures c.if-mark-eq-PI.true
@@ -55,17 +48,8 @@ pub note_row-loop-k-preserved : goal.note_row-loop-k-preserved
 note_row-loop-k-preserved t c =
     (c.note_all.ensures.nameless, let one = rw c.field_at-part.ensures at c.note_all.ensures.notes in elim c.match-note_all.branch [ note_row-in-Named w ↦ meets_more c.loop-k.invariant.1 _ (omega arith) (omega arith) one _ (omega arith) w.in-Named.is w.any-is | note_row-in-Unnamed w ↦ meets_same c.loop-k.invariant.1 _ (omega arith) (omega arith) one _ (omega arith) w.in-Unnamed.is w.any-is ])
 
-pub note_row-shape_of-met-then-any : goal.note_row-shape_of-met-then-any
-note_row-shape_of-met-then-any t c = c.loop-k.invariant.1.row.size ∙ sym c.requires.1.1.0.size
-
 pub note_row-returns-then-any : goal.note_row-returns-then-any
 note_row-returns-then-any t c = record { nameless = c.loop-k.invariant.0; notes = meets_named c.loop-k.invariant.1 (omega arith) }
-
-pub note_row-bounds-nameless-p : goal.note_row-bounds-nameless-p
-note_row-bounds-nameless-p t c = search nameless_fits
-
-pub note_row-shape_of-nameless : goal.note_row-shape_of-nameless
-note_row-shape_of-nameless t c = length-set c.loop-k.nameless c.args.p 1 ∙ c.loop-k.invariant.0.size ∙ sym c.requires.1.1.1.size
 
 pub note_row-returns : goal.note_row-returns
 note_row-returns t c =

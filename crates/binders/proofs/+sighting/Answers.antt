@@ -2,26 +2,17 @@
 -- Assumes nothing.
 use mathlib.Core.Path.{refl, sym, ◌∙◌}
 use native.Mathlib.Omega.{arith}
-use lib.ListN.{length-set}
-use borrow.Author.Rules.{rules}
 use Rattle.book.proofs.Standing.{stands_begins}
-use Rattle.pattern.proofs.Memos.{memo_fits}
 use Rattle.pattern.proofs.Records.{name_lies, row_count, row_lies, row_most, row_part}
 use Rattle.binders.proofs.Sights.{binds_place, binds_element, skips_none, skips_element, sights_known, sights_row, sights_name, sights_other, sights_ignored, element_none, element_found}
 use Rattle.binders.proofs.+sighting.Goals as goal
 use Rattle.binders.proofs.+sighting.Goals.{type_in-else-mark-eq-PI-via-then-mark-eq-PI+else-field_at-name, type_in-else-mark-eq-PI-via-else-mark-eq-PI, type_in_row-then-may_have+else-is_some, type_in_row-else-may_have}
-
-pub type_in-bounds-missing-p : goal.type_in-bounds-missing-p
-type_in-bounds-missing-p t c = search memo_fits
 
 pub type_in-returns-then-missing-p-eq1 : goal.type_in-returns-then-missing-p-eq1
 type_in-returns-then-missing-p-eq1 t c = search sights_known
 
 pub type_in-mark_at-mark-requires : goal.type_in-mark_at-mark-requires
 type_in-mark_at-mark-requires t c = stands_begins c.requires.0.pattern
-
-pub type_in-type_in_row-requires : goal.type_in-type_in_row-requires
-type_in-type_in_row-requires t c = (search rules, (search rules, (sym c.mark_at-mark.ensures ∙ c.if-mark-eq-PT.true, search rules)))
 
 pub type_in-field_at-requires : goal.type_in-field_at-requires
 type_in-field_at-requires t c = name_lies c.requires.0.pattern _ c.mark_at-mark.ensures c.if-mark-eq-PI.true
@@ -58,9 +49,6 @@ pub type_in_row-type_in-found-requires : goal.type_in_row-type_in-found-requires
 type_in_row-type_in-found-requires t c =
     let e = binds_element c.requires.0 _ _ _ _ _ c.requires.1.0 c.field_at-n.ensures c.loop-k-test.true refl c.field_at-part.ensures (rw c.unwrap-s.ensures at c.place.ensures) in (omega (arith, e.below), (e.binds, c.loop-k.invariant.0))
 
-pub type_in_row-shape_of-missing-then-is_some : goal.type_in_row-shape_of-missing-then-is_some
-type_in_row-shape_of-missing-then-is_some t c = c.type_in-found.ensures.memo.size ∙ sym c.requires.1.1.size
-
 pub type_in_row-returns-then-is_some : goal.type_in_row-returns-then-is_some
 type_in_row-returns-then-is_some t c =
     element_found c.loop-k.invariant.1 (binds_element c.requires.0 _ _ _ _ _ c.requires.1.0 c.field_at-n.ensures c.loop-k-test.true refl c.field_at-part.ensures (rw c.unwrap-s.ensures at c.place.ensures)) c.type_in-found.ensures _ c.loop-k-test.true refl c.field_at-part.ensures (sym c.is_some.ensures ∙ c.if-is_some.true)
@@ -68,12 +56,6 @@ type_in_row-returns-then-is_some t c =
 pub type_in_row-loop-k-preserved : goal.type_in_row-loop-k-preserved
 type_in_row-loop-k-preserved t c =
     elim c.if-may_have.branch [ type_in_row-then-may_have+else-is_some w ↦ rw w.missing-is (element_none c.loop-k.invariant.1 (binds_element c.requires.0 _ _ _ _ _ c.requires.1.0 c.field_at-n.ensures c.loop-k-test.true refl c.field_at-part.ensures (rw w.unwrap-s.ensures at w.place.ensures)) w.type_in-found.ensures _ c.loop-k-test.true refl c.field_at-part.ensures _ refl (sym w.is_some.ensures ∙ w.if-is_some.false)) | type_in_row-else-may_have w ↦ rw w.missing-is (c.loop-k.invariant.0, skips_element c.requires.0 c.loop-k.invariant.1 _ c.loop-k-test.true refl c.field_at-part.ensures _ refl (c.may_have.ensures w.if-may_have.false)) ]
-
-pub type_in_row-bounds-missing-p : goal.type_in_row-bounds-missing-p
-type_in_row-bounds-missing-p t c = search memo_fits
-
-pub type_in_row-shape_of-missing : goal.type_in_row-shape_of-missing
-type_in_row-shape_of-missing t c = length-set c.loop-k.missing c.args.p 1 ∙ c.loop-k.invariant.0.size ∙ sym c.requires.1.1.size
 
 pub type_in_row-returns : goal.type_in_row-returns
 type_in_row-returns t c = search sights_row

@@ -2,7 +2,6 @@
 -- Assumes nothing.
 use mathlib.Core.Path.{sym, ◌∙◌}
 use Rattle.book.proofs.Standing.{stands_begins}
-use Rattle.binders.proofs.Tallies.{nameless_fits}
 use Rattle.binders.proofs.Doubling.{row_stands, function_stands, blank_nameless, repeats_params, repeats_other}
 use Rattle.binders.proofs.doubled_at.Goals as goal
 
@@ -22,9 +21,6 @@ params_repeat-requires c = record { stands = function_stands c.requires.stands c
 pub returns-then-m-eq-FN : goal.returns-then-m-eq-FN
 returns-then-m-eq-FN c =
     repeats_params (function_stands c.requires.stands c.mark_at-m.ensures c.if-m-eq-FN.true) c.params_repeat.ensures.0 c.params_repeat.ensures.1 c.requires.nameless
-
-pub bounds-nameless-r : goal.bounds-nameless-r
-bounds-nameless-r c = nameless_fits c.requires.nameless c.requires.stands
 
 pub returns-then-m-eq-PN : goal.returns-then-m-eq-PN
 returns-then-m-eq-PN c =

@@ -1,13 +1,9 @@
 -- `may_have` meets its contract: the name was sought there in vain, or the pattern is another name, or it is neither a name nor a row.
 -- Assumes nothing.
 use Rattle.book.proofs.Standing.{stands_begins}
-use Rattle.pattern.proofs.Memos.{memo_fits}
 use Rattle.pattern.proofs.Records.{name_lies}
 use Rattle.binders.proofs.Sights.{other_not, ignored_not}
 use Rattle.binders.proofs.may_have.Goals as goal
-
-pub bounds-missing-p : goal.bounds-missing-p
-bounds-missing-p c = memo_fits c.requires.stands c.requires.memo
 
 pub returns-then-missing-p-eq1 : goal.returns-then-missing-p-eq1
 returns-then-missing-p-eq1 c = λ e. c.requires.memo.sound _ c.if-missing-p-eq1.true

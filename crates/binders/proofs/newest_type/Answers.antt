@@ -9,12 +9,6 @@ use Rattle.binders.proofs.newest_type.Goals as goal
 pub loop-at-init : goal.loop-at-init
 loop-at-init c = (memo_none _ _ _ _ (rw c.requires.missing_length at c.clear.ensures), older_none _ _ _ _ _ _)
 
-pub type_in-found-requires : goal.type_in-found-requires
-type_in-found-requires c = (c.requires.live.each _ (omega (arith, c.loop-at.invariant.1.low)), c.loop-at.invariant.0)
-
-pub shape_of-missing-then-is_some : goal.shape_of-missing-then-is_some
-shape_of-missing-then-is_some c = c.type_in-found.ensures.memo.size ∙ sym c.requires.missing_length
-
 pub returns-then-is_some : goal.returns-then-is_some
 returns-then-is_some c =
     (older_found c.loop-at.invariant.1 _ c.loop-at-test.true refl c.type_in-found.ensures.seen (sym c.is_some.ensures ∙ c.if-is_some.true), c.type_in-found.ensures.memo.size)
@@ -22,9 +16,6 @@ returns-then-is_some c =
 pub loop-at-preserved : goal.loop-at-preserved
 loop-at-preserved c =
     (c.type_in-found.ensures.memo, older_next c.loop-at.invariant.1 _ c.loop-at-test.true refl c.type_in-found.ensures.seen (sym c.is_some.ensures ∙ c.if-is_some.false))
-
-pub shape_of-missing : goal.shape_of-missing
-shape_of-missing c = c.loop-at.invariant.0.size ∙ sym c.requires.missing_length
 
 pub returns : goal.returns
 returns c = (older_all c.loop-at.invariant.1 (omega arith), c.loop-at.invariant.0.size)

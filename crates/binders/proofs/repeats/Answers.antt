@@ -2,12 +2,9 @@
 -- Assumes nothing.
 use mathlib.Core.Path.{refl, sym}
 use borrow.Author.Rules.{rules}
-use Rattle.binders.proofs.Tallies.{met_next, met_fresh, nameless_fits, notes_twice, notes_new_all, notes_empty}
+use Rattle.binders.proofs.Tallies.{met_fresh, notes_twice, notes_new_all, notes_empty}
 use Rattle.binders.proofs.Doubling.{repeats_row, repeats_none, part_fits, repeats_part}
 use Rattle.binders.proofs.repeats.Goals as goal
-
-pub bounds-nameless-p : goal.bounds-nameless-p
-bounds-nameless-p c = nameless_fits c.requires.nameless c.requires.stands
 
 pub returns-in_default : goal.returns-in_default
 returns-in_default c = repeats_none c.requires.stands c.requires.met c.requires.nameless c.in_default.ensures
@@ -18,9 +15,6 @@ bounds-doubled-s c = part_fits c.in-Some.ensures c.requires.doubled
 pub returns-then-s-p : goal.returns-then-s-p
 returns-then-s-p c =
     repeats_part c.requires.stands c.requires.met c.requires.nameless c.in-Some.ensures c.requires.doubled c.if-s-p.true
-
-pub note_all-requires : goal.note_all-requires
-note_all-requires c = (c.requires.stands, (met_next c.requires.met refl, c.requires.nameless))
 
 pub returns-in-Twice : goal.returns-in-Twice
 returns-in-Twice c =

@@ -12,8 +12,5 @@ pub returns-in_err-f : goal.returns-in_err-f
 returns-in_err-f c =
     (rw c.from_residual.ensures (newest_root c.newest_type-found.ensures.0 (sym c.is_some.ensures ∙ c.if-is_some.false) c.in_err-f.was), search rules)
 
-pub type_of_param-requires : goal.type_of_param-requires
-type_of_param-requires c = c.requires.live.based _ c.in_ok-f.was
-
 pub returns : goal.returns
 returns c = (newest_params c.newest_type-found.ensures.0 (sym c.is_some.ensures ∙ c.if-is_some.false) c.in_ok-f.was c.type_of_param.ensures, search rules)

@@ -1,13 +1,9 @@
 -- `halved` meets its contract: a pair of one type twice, as often as the number can be halved.
 -- Assumes nothing.
-use native.Mathlib.Omega.{arith}
-use mathlib.Core.Path.{refl, sym, ◌∙◌}
+use mathlib.Core.Path.{sym, ◌∙◌}
 use borrow.Author.Tests.{not-true, not-false}
 use Rattle.shapes.proofs.Halves.{halved_end, halved_none, halved_unlike, halved_next}
 use Rattle.shapes.proofs.part.halved.Goals as goal
-
-pub loop-count-init : goal.loop-count-init
-loop-count-init c = record { stands = c.requires.stands; power = c.requires.among; is = refl }
 
 pub returns-in_err-part : goal.returns-in_err-part
 returns-in_err-part c = rw c.from_residual.ensures (halved_none c.loop-count.invariant c.loop-count-test.true c.in_err-part.ensures)
@@ -15,9 +11,6 @@ returns-in_err-part c = rw c.from_residual.ensures (halved_none c.loop-count.inv
 pub returns-then-ne : goal.returns-then-ne
 returns-then-ne c =
     halved_unlike c.loop-count.invariant c.loop-count-test.true c.in_ok-part.ensures c.side-in-loop-count.ensures (not-true _ (sym c.ne.ensures ∙ c.if-ne.true))
-
-pub loop-count-smaller : goal.loop-count-smaller
-loop-count-smaller c = omega (arith, c.loop-count-test.true)
 
 pub loop-count-preserved : goal.loop-count-preserved
 loop-count-preserved c = halved_next c.loop-count.invariant c.loop-count-test.true c.in_ok-part.ensures c.side-in-loop-count.ensures (not-false _ (sym c.ne.ensures ∙ c.if-ne.false))

@@ -34,15 +34,9 @@ returns-then-not-is_block c =
 pub field_at-at-requires : goal.field_at-at-requires
 field_at-at-requires c = side_lies c.loop-half.invariant.stands c.mark_at.ensures {m = TP} tt c.if-mark_at-ne-TP.false 1 (omega arith)
 
-pub loop-half-smaller : goal.loop-half-smaller
-loop-half-smaller c = omega (arith, c.loop-half-test.true)
-
 pub loop-half-preserved : goal.loop-half-preserved
 loop-half-preserved c =
     list_next (type_of c.args.book.now.bytes c.args.book.now.index c.args.element) c.loop-half.invariant c.loop-half-test.true c.mark_at.ensures c.if-mark_at-ne-TP.false c.field_at.ensures c.field_at-at.ensures c.is_block.ensures c.if-not-is_block.false
-
-pub is_block-requires-2 : goal.is_block-requires-2
-is_block-requires-2 c = record { stands = c.loop-half.invariant.stands; stands_element = c.requires.stands_element; among = tt }
 
 pub returns : goal.returns
 returns c =

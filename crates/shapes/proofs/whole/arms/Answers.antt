@@ -5,9 +5,6 @@ use Rattle.shapes.proofs.Rows.{span_row}
 use Rattle.shapes.proofs.Walks.{tells}
 use Rattle.shapes.proofs.whole.arms.Goals as goal
 
-pub span_of-requires : goal.span_of-requires
-span_of-requires c = c.requires.marked
-
 pub are_all-requires : goal.are_all-requires
 are_all-requires c = record { stands = typed_stands c.requires; elements = span_row c.requires.marked tt c.span_of.ensures }
 

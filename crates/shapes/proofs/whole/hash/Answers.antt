@@ -8,9 +8,6 @@ use Rattle.shapes.proofs.whole.hash.Goals as goal
 pub field_at-n-requires : goal.field_at-n-requires
 field_at-n-requires c = typed_lies c.requires 2 tt
 
-pub are_hashed-requires : goal.are_hashed-requires
-are_hashed-requires c = record { marked = c.requires.marked; n_is = c.field_at-n.ensures }
-
 pub returns-else-are_hashed : goal.returns-else-are_hashed
 returns-else-are_hashed c = stops (hash_is c.requires c.field_at-n.ensures) c.are_hashed.ensures c.if-are_hashed.false
 

@@ -10,9 +10,6 @@ use Rattle.shapes.proofs.whole.is_accumulator.Goals as goal
 pub field_at-accumulator-requires : goal.field_at-accumulator-requires
 field_at-accumulator-requires c = second_lies c.requires
 
-pub part_type-requires : goal.part_type-requires
-part_type-requires c = record { lies = c.requires.lies; stands = c.requires.start }
-
 pub returns-then-part_type-accumulator : goal.returns-then-part_type-accumulator
 returns-then-part_type-accumulator c =
     let s = second_stands c.requires c.field_at-accumulator.ensures in fails (accumulates_is c.requires c.field_at-accumulator.ensures) (differ (is_test c.part_type.ensures s) c.if-part_type-accumulator.true)

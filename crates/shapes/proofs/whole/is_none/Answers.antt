@@ -1,6 +1,5 @@
 -- `is_none` meets its contract: a sum has a left side.
 -- Assumes nothing.
-use native.Mathlib.Omega.{arith}
 use Rattle.shapes.proofs.Constructs.{is_none_is, names, typed_lies, typed_stands}
 use Rattle.shapes.proofs.Same.{tells_there}
 use Rattle.shapes.proofs.Walks.{passes, stops, tells, yes}
@@ -8,9 +7,6 @@ use Rattle.shapes.proofs.whole.is_none.Goals as goal
 
 pub part_type-part-requires : goal.part_type-part-requires
 part_type-part-requires c = record { lies = typed_lies c.requires 1 tt; stands = names c.requires 1 tt tt }
-
-pub side-requires : goal.side-requires
-side-requires c = record { stands = c.part_type-part.ensures.0; sort = tt; k_in_range = omega arith }
 
 pub returns-else-is_some : goal.returns-else-is_some
 returns-else-is_some c = stops (is_none_is c.requires c.part_type-part.ensures) (tells_there c.side.ensures c.is_some.ensures) c.if-is_some.false

@@ -14,9 +14,6 @@ use Rattle.shapes.proofs.Rows.{part_at, row_unit, row_walk}
 use Rattle.shapes.proofs.Walks.{walk_all}
 use Rattle.shapes.proofs.whole.is_row.Goals as goal
 
-pub is_unit-requires : goal.is_unit-requires
-is_unit-requires c = c.requires.stands
-
 pub returns-then-span-eq0 : goal.returns-then-span-eq0
 returns-then-span-eq0 c = c.is_unit.ensures ∙ row_unit c.requires.elements _ c.if-span-eq0.true
 

@@ -1,23 +1,13 @@
 -- `is_taken` meets its contract: the argument's type and the parameter's are one record's.
 -- Assumes nothing.
-use native.Mathlib.Omega.{arith}
 use Rattle.shapes.proofs.Constructs.{is_test}
 use Rattle.shapes.proofs.Functions.{argument, param_at, param_lies}
 use Rattle.shapes.proofs.whole.is_taken.Goals as goal
-
-pub overflow_add-k : goal.overflow_add-k
-overflow_add-k c = omega (arith, c.requires.elements.few, c.requires.k_in_range)
 
 pub part_type-requires : goal.part_type-requires
 part_type-requires c =
     let both = argument c.requires.elements c.requires.k_in_range in
     record { lies = both.0; stands = both.1 }
-
-pub overflow_mul-k : goal.overflow_mul-k
-overflow_mul-k c = omega (arith, c.requires.elements.few, c.requires.k_in_range)
-
-pub overflow_add-k-2 : goal.overflow_add-k-2
-overflow_add-k-2 c = omega (arith, c.requires.elements.few, c.requires.k_in_range)
 
 pub field_at-requires : goal.field_at-requires
 field_at-requires c = param_lies c.requires.stands _ c.requires.n_is c.requires.k_in_range

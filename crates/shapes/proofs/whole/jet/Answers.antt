@@ -2,13 +2,10 @@
 -- Assumes nothing.
 use native.Mathlib.Omega.{arith}
 use Rattle.shapes.proofs.Constructs.{typed_lies, typed_stands}
-use Rattle.shapes.proofs.Functions.{jet_bits, jet_few, jet_is, jet_number, jet_result, jet_some, jet_word}
+use Rattle.shapes.proofs.Functions.{jet_few, jet_is, jet_number, jet_result, jet_some, jet_word}
 use Rattle.shapes.proofs.Rows.{span_row}
 use Rattle.shapes.proofs.Walks.{passes, stops, tells, yes}
 use Rattle.shapes.proofs.whole.jet.Goals as goal
-
-pub span_of-span-requires : goal.span_of-span-requires
-span_of-span-requires c = c.requires.marked
 
 pub field_at-requires : goal.field_at-requires
 field_at-requires c = typed_lies c.requires 2 tt
@@ -24,9 +21,6 @@ returns-then-field_at-jet c = jet_few c.requires c.field_at.ensures c.jet_at-jet
 
 pub nonzero_div-bits : goal.nonzero_div-bits
 nonzero_div-bits c = jet_some c.requires c.field_at.ensures c.jet_at-jet.ensures
-
-pub overflow_cast-bits : goal.overflow_cast-bits
-overflow_cast-bits c = omega (arith, jet_bits c.requires c.field_at.ensures c.jet_at-jet.ensures)
 
 pub are_words-requires : goal.are_words-requires
 are_words-requires c =

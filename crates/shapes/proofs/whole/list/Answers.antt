@@ -6,9 +6,6 @@ use Rattle.shapes.proofs.Same.{gives_none, gives_some, gives_stands}
 use Rattle.shapes.proofs.Walks.{passes, stops, tells, yes}
 use Rattle.shapes.proofs.whole.list.Goals as goal
 
-pub span_of-span-requires : goal.span_of-span-requires
-span_of-span-requires c = c.requires.marked
-
 pub field_at-bound-requires : goal.field_at-bound-requires
 field_at-bound-requires c = typed_lies c.requires 1 tt
 

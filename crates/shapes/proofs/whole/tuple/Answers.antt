@@ -5,9 +5,6 @@ use Rattle.shapes.proofs.Rows.{span_row}
 use Rattle.shapes.proofs.Walks.{tells}
 use Rattle.shapes.proofs.whole.tuple.Goals as goal
 
-pub span_of-requires : goal.span_of-requires
-span_of-requires c = c.requires.marked
-
 pub is_row-requires : goal.is_row-requires
 is_row-requires c = record { stands = typed_stands c.requires; elements = span_row c.requires.marked tt c.span_of.ensures }
 

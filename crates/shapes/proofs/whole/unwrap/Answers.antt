@@ -10,9 +10,6 @@ part_type-part-requires c =
     let both = unwrap_part _ c.requires.declares c.requires.k_in_range in
     record { lies = both.0; stands = both.1 }
 
-pub side-requires : goal.side-requires
-side-requires c = record { stands = c.part_type-part.ensures.0; sort = tt; k_in_range = c.requires.k_in_range }
-
 pub returns : goal.returns
 returns c =
     tells (unwrap_is _ c.requires.declares c.requires.k_in_range c.part_type-part.ensures) (tells_at c.side.ensures (typed_stands c.requires.declares) c.eq.ensures)

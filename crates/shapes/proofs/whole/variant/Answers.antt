@@ -7,9 +7,6 @@ use Rattle.shapes.proofs.Same.{gives_none, gives_some, gives_stands}
 use Rattle.shapes.proofs.Walks.{fails, no, passes, tells, yes}
 use Rattle.shapes.proofs.whole.variant.Goals as goal
 
-pub span_of-span-requires : goal.span_of-span-requires
-span_of-span-requires c = c.requires.marked
-
 pub field_at-n-requires : goal.field_at-n-requires
 field_at-n-requires c = typed_lies c.requires 2 tt
 
