@@ -351,7 +351,8 @@ fn block(
     close_all(book, r, values, last.root, nodes, last.next)
 }
 
-// The end of a block: an expression, or unit where there is none.
+// The end of a block: an expression, or unit where there is none. Its field has 65535 for none, as document 01 fixes it; it is read in
+// this one place, so that an Option would only be made to be taken apart.
 #[cycle(lowering)]
 fn end(
     book: &Book,

@@ -7,9 +7,6 @@ use Rattle.builtins.proofs.raw_hash.+add_tuple.Goals as goal
 pub returns-in-empty : goal.returns-in-empty
 returns-in-empty t c = search add_none
 
-pub add_jet-requires : goal.add_jet-requires
-add_jet-requires t c = c.requires.1.each 0 (omega arith)
-
 pub returns-in-len1 : goal.returns-in-len1
 returns-in-len1 t c = add_one _ c.in-len1.len_at_least c.in-len1.len_below c.add_jet.ensures.is c.put.ensures
 

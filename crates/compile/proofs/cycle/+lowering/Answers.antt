@@ -88,9 +88,6 @@ pub block-loop-k-preserved : goal.block-loop-k-preserved
 block-loop-k-preserved t c =
     (simp length-set c.loop-k.invariant.0, c.enter-own.ensures.stands, begun_next c.loop-k.invariant.2 _ c.field_at-s.ensures (stmt_stands c.requires.0 c.loop-k.k (omega (arith, c.loop-k-test.true, c.field_at-count.ensures)) c.field_at-s.ensures) c.loop-k-test.true (omega (arith, c.loop-k-test.true, most c.requires.0 1 tt refl, c.field_at-count.ensures, c.loop-k.invariant.0)) c.in_ok-a.ensures (enters_is _ c.enter-own.ensures c.in_ok-a.ensures))
 
-pub block-end-requires : goal.block-end-requires
-block-end-requires t c = ((omega (arith, c.decreases)), (c.requires.0, c.loop-k.invariant.1))
-
 pub block-returns-in_err-last : goal.block-returns-in_err-last
 block-returns-in_err-last t c =
     rw (handed c.from_residual-in_err-last.ensures.1, block_is _ _ _ _ _ c.requires.0, ← c.field_at-count.ensures) (begun_end_halt c.loop-k.invariant.2 c.loop-k-test.false c.loop-k.auto.k-end (rw (← c.field_at-count.ensures) at c.in_err-last.ensures))
@@ -124,9 +121,6 @@ pub body-function-requires : goal.body-function-requires
 body-function-requires t c =
     ((omega (arith, c.decreases, functional_below c.requires.0 (sym c.is_functional.ensures ∙ c.if-not-is_functional.false) c.field_at-f.ensures)), functional_stands c.requires.0 (sym c.is_functional.ensures ∙ c.if-not-is_functional.false) c.field_at-f.ensures)
 
-pub body-fold_body-requires : goal.body-fold_body-requires
-body-fold_body-requires t c = c.requires.0
-
 pub body-returns : goal.body-returns
 body-returns t c =
     body_fold _ _ _ _ _ (sym c.is_functional.ensures ∙ c.if-not-is_functional.false) c.field_at-f.ensures c.in_ok-g.ensures c.fold_body.ensures
@@ -134,12 +128,6 @@ body-returns t c =
 pub body-returns-in_err-g : goal.body-returns-in_err-g
 body-returns-in_err-g t c =
     rw (handed c.from_residual.ensures.1) (body_halt _ _ _ _ _ (sym c.is_functional.ensures ∙ c.if-not-is_functional.false) c.field_at-f.ensures c.in_err-g.ensures)
-
-pub call-body-requires : goal.call-body-requires
-call-body-requires t c = ((omega (arith, c.decreases)), (c.requires.0, c.requires.1))
-
-pub call-finish-requires : goal.call-finish-requires
-call-finish-requires t c = c.requires.0
 
 pub call-returns : goal.call-returns
 unfolding call_run
@@ -174,14 +162,8 @@ complete-call-requires t c = ((omega (arith, c.decreases)), (c.requires.0, sym c
 pub complete-returns-then-is_call : goal.complete-returns-then-is_call
 complete-returns-then-is_call t c = complete_call _ _ _ _ _ _ _ c.if-m-eq-EH.false (sym c.is_call.ensures ∙ c.if-is_call.true) c.call.ensures
 
-pub complete-wrap-requires : goal.complete-wrap-requires
-complete-wrap-requires t c = c.requires.0
-
 pub complete-returns : goal.complete-returns
 complete-returns t c = complete_wrap _ _ _ _ _ _ _ c.if-m-eq-EH.false (sym c.is_call.ensures ∙ c.if-is_call.false) c.wrap.ensures
-
-pub element-overflow_sub-j : goal.element-overflow_sub-j
-element-overflow_sub-j t c = c.requires.1.1.after c.if-m-eq-EH.true
 
 pub element-arm_at-a-requires : goal.element-arm_at-a-requires
 element-arm_at-a-requires t c = (c.requires.1.1.before c.if-m-eq-EH.true, lies_after (c.requires.1.1.after c.if-m-eq-EH.true) c.requires.1.1.lies)
@@ -193,9 +175,6 @@ element-arm-requires t c =
 pub element-returns-then-m-eq-EH : goal.element-returns-then-m-eq-EH
 element-returns-then-m-eq-EH t c =
     element_arm _ _ _ _ _ _ _ _ _ c.if-m-eq-EH.true (c.requires.1.1.after c.if-m-eq-EH.true) c.arm_at-a.ensures.0 c.arm_at-a.ensures.1 c.arm.ensures
-
-pub element-field_at-e-requires : goal.element-field_at-e-requires
-element-field_at-e-requires t c = c.requires.1.1.lies
 
 pub element-expression-requires : goal.element-expression-requires
 element-expression-requires t c =
@@ -288,24 +267,9 @@ expression-returns-in-12 t c = rw (witness_is _ _ _ _ _ (marked c.requires.0 c.m
 pub expression-returns-in-13 : goal.expression-returns-in-13
 expression-returns-in-13 t c = rw (variable_is _ _ _ _ _ (marked c.requires.0 c.mark_at-m.ensures EV c.in-13.is)) c.variable.ensures
 
-pub expression-returns-in-19 : goal.expression-returns-in-19
-expression-returns-in-19 t c = c.block.ensures
-
-pub expression-returns-in-22 : goal.expression-returns-in-22
-expression-returns-in-22 t c = c.two_arms.ensures
-
 pub expression-returns-in-31 : goal.expression-returns-in-31
 expression-returns-in-31 t c =
     rw (cast_is _ _ _ _ _ (marked c.requires.0 c.mark_at-m.ensures CK c.in-31.is), ← c.field_at-e.ensures) c.expression.ensures
-
-pub expression-returns-in_default : goal.expression-returns-in_default
-expression-returns-in_default t c = c.from_row.ensures
-
-pub from_row-row-requires : goal.from_row-row-requires
-from_row-row-requires t c = ((omega (arith, c.decreases)), (c.requires.0, (c.requires.1.0, c.requires.1.1)))
-
-pub from_row-complete-requires : goal.from_row-complete-requires
-from_row-complete-requires t c = ((omega (arith, c.decreases)), (c.requires.0, c.requires.1.0))
 
 pub from_row-returns : goal.from_row-returns
 from_row-returns t c = rw (row_is _ _ _ _ _ _ c.requires.1.1 c.requires.0) (then _ c.in_ok-a.ensures c.complete.ensures)
@@ -325,9 +289,6 @@ function-expression-requires t c =
 
 pub function-returns : goal.function-returns
 function-returns t c = fn_done c.requires c.field_at-n.ensures c.field_at-e.ensures _ c.from_root-scope.ensures c.expression.ensures
-
-pub row-span_of-span-requires : goal.row-span_of-span-requires
-row-span_of-span-requires t c = c.requires.0
 
 pub row-returns : goal.row-returns
 row-returns t c = row_then _ _ _ _ _ _ c.span_of-span.ensures c.in_ok-n.ensures c.gather.ensures

@@ -16,9 +16,6 @@ pub returns-then-roots-half : goal.returns-then-roots-half
 returns-then-roots-half t c =
     list_empty _ c.requires.1 c.if-half-eq1.false c.if-roots-half.true c.empty_block-block.ensures c.list-rest.ensures c.put.ensures
 
-pub filled_block-block-requires : goal.filled_block-block-requires
-filled_block-block-requires t c = omega (arith, c.requires.1.few)
-
 pub returns-then-half-eq1-2 : goal.returns-then-half-eq1-2
 returns-then-half-eq1-2 t c = list_one _ c.if-half-eq1-2.true c.if-roots-half.false c.requires.0 c.split_at.ensures.front c.filled_block-block.ensures
 
