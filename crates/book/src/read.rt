@@ -303,7 +303,7 @@ impl Reader {
         deep: u8,
         end: usize,
     ) -> Result<usize, Fault>
-        requires ready { Ready book.now self.old.index self.old.named self.old.depths r }
+        requires rows { Rows book.now self.old.index r }
         requires r_in_range { r < 4096 }
         requires opens { Opens book.now at mark (count_at book.now at) end }
         requires chained { Chained book.now self.old.index self.old.chains r }
@@ -338,7 +338,7 @@ impl Reader {
 
     // LOOSE: the first such before the last, else the last, if it is no expression.
     fn judge_loose(&self, book: &[u8], count: usize) -> Result<u16, Refusal>
-        requires ready { Ready book.now self.now.index self.now.named self.now.depths count }
+        requires rows { Rows book.now self.now.index count }
         requires count_in_range { 0 < count }
         ensures { (p : ℕ) → outcome_of result self.now.index ≡ loose book.now (state p count self.now.index self.now.named self.now.depths) 0 (count - 1) }
     {

@@ -10,7 +10,7 @@ use Rattle.book.proofs.read.Reader.judge_loose.Goals as goal
 
 pub is_unnamed-requires : goal.is_unnamed-requires
 is_unnamed-requires c =
-    omega (arith, (c.requires.ready.rows.inside c.loop-j.j (omega arith)).ends, mark_within c.args.book.now (get_or c.args.self.now.index c.loop-j.j 0))
+    omega (arith, (c.requires.rows.inside c.loop-j.j (omega arith)).ends, mark_within c.args.book.now (get_or c.args.self.now.index c.loop-j.j 0))
 
 pub returns-then-is_unnamed : goal.returns-then-is_unnamed
 returns-then-is_unnamed c =
@@ -22,7 +22,7 @@ loop-j-preserved c =
 
 pub kind_at-requires : goal.kind_at-requires
 kind_at-requires c =
-    omega (arith, (c.requires.ready.rows.inside (c.args.count - 1) (omega arith)).ends, mark_within c.args.book.now (get_or c.args.self.now.index (c.args.count - 1) 0))
+    omega (arith, (c.requires.rows.inside (c.args.count - 1) (omega arith)).ends, mark_within c.args.book.now (get_or c.args.self.now.index (c.args.count - 1) 0))
 
 pub returns-then-kind_at-ne-EXPRESSION : goal.returns-then-kind_at-ne-EXPRESSION
 returns-then-kind_at-ne-EXPRESSION c =

@@ -26,8 +26,8 @@ settle_record-requires-clause-opens c =
     let f = c.in_ok-mark.field-0 in
     opens_count _ _ _ _ _ (step_opens b u f.mark f.count f.end c.in_ok-mark.ensures c.requires.ready.rows.size)
 
-pub settle_record-requires-clause-ready : goal.settle_record-requires-clause-ready
-settle_record-requires-clause-ready c = ready_kept c.judge_fields.ensures.others c.requires.ready
+pub settle_record-requires-clause-rows : goal.settle_record-requires-clause-rows
+settle_record-requires-clause-rows c = (ready_kept c.judge_fields.ensures.others c.requires.ready).rows
 
 pub settle_record-requires-clause-chained : goal.settle_record-requires-clause-chained
 settle_record-requires-clause-chained c = let k = c.judge_fields.ensures.others in rw (k.index, k.chains) c.requires.chained
