@@ -124,21 +124,19 @@ impl Judge<'_> {
         requires { (Marked book.now.bytes book.now.index r m) × ((Scoped book.now.bytes book.now.index self.old scope.live scope.base) × ((Enough book.now.bytes book.now.index r scope.live) × ((m ≡ EV → ⊥)))) }
         ensures { Stays book.now.bytes book.now.index (parts_of book.now.bytes book.now.index r m (scope_of book.now.bytes book.now.index self.old.bindings scope.live scope.base)) scope.live self.old result self.new }
     {
-        if m == EB {
-            return self.block(book, r, scope);
+        match m {
+            EB => self.block(book, r, scope),
+            EM => self.matching(book, r, 2, 2, scope),
+            EH => {
+                let n = book.field_at(r, 2) as usize;
+                self.matching(book, r, 3, n, scope)
+            }
+            CK => {
+                let e = book.field_at(r, 1);
+                self.expression(book, e, scope)
+            }
+            _ => self.row(book, r, m, scope),
         }
-        if m == EM {
-            return self.matching(book, r, 2, 2, scope);
-        }
-        if m == EH {
-            let n = book.field_at(r, 2) as usize;
-            return self.matching(book, r, 3, n, scope);
-        }
-        if m == CK {
-            let e = book.field_at(r, 1);
-            return self.expression(book, e, scope);
-        }
-        self.row(book, r, m, scope)
     }
 
     // The elements of a record's row.
@@ -227,10 +225,12 @@ impl Judge<'_> {
             live = entered(book, s, live);
         }
         let end = book.field_at(r, 2 + n);
+        // The book has 65535 for no end.
         if end == 65535 {
-            return Ok(());
+            Ok(())
+        } else {
+            self.expression(book, end, Scope { live, ..scope })
         }
-        self.expression(book, end, Scope { live, ..scope })
     }
 
     // A statement: its expression, and then its binding, or that it is of type unit.

@@ -3,6 +3,7 @@
 use mathlib.Core.Path.{refl, sym, ◌∙◌}
 use native.Mathlib.Nat.{le_trans, le_of_lt}
 use native.Mathlib.Omega.{arith}
+use Rattle.std.proofs.Common.{rules}
 use Rattle.book.specs.Format.{EV, EB, EM, EH, CK}
 use Rattle.book.proofs.Standing.{stands_begins}
 use Rattle.parts.proofs.Marks.{at_mark}
@@ -95,8 +96,8 @@ pub block-expression-requires : goal.block-expression-requires
 block-expression-requires t c =
     let p = end_part c.requires.0 _ c.field_at-n.ensures c.field_at-end.ensures c.if-end.false in (omega (arith, c.decreases, p.below), (p.stands, (block_scoped c.loop-k.invariant c.requires.1.0, enough_part _ _ c.requires.1.1 p.shallower (omega (arith, c.loop-k.invariant.few, block_most c.requires.0 c.field_at-n.ensures)))))
 
-pub block-returns : goal.block-returns
-block-returns t c = block_end c.loop-k.invariant (omega arith) c.field_at-end.ensures c.if-end.false c.expression.ensures
+pub block-returns-else-end : goal.block-returns-else-end
+block-returns-else-end t c = block_end c.loop-k.invariant (omega arith) c.field_at-end.ensures c.if-end.false c.expression.ensures
 
 pub does-field_at-e-requires : goal.does-field_at-e-requires
 does-field_at-e-requires t c = does_lies c.requires.0 c.requires.1.0
@@ -156,39 +157,40 @@ matching-returns-in_err-arms t c =
     match_halt _ _ _ _ _ c.field_at-e.ensures c.type_of-t.ensures.1 (agreed _ _ c.has_places.ensures c.agree.ensures c.in_ok-agree.was) c.arms.ensures (handed c.in_err-arms.was c.from_residual-in_err-arms.ensures.1)
 
 pub parts-block-requires : goal.parts-block-requires
-parts-block-requires t c = (omega (arith, c.decreases), (at_mark c.requires.0 EB c.if-m-eq-EB.true, (c.requires.1.0, c.requires.1.1.0)))
+parts-block-requires t c = (omega (arith, c.decreases), (at_mark c.requires.0 EB c.in-19.is, (c.requires.1.0, c.requires.1.1.0)))
 
-pub parts-returns-then-m-eq-EB : goal.parts-returns-then-m-eq-EB
-parts-returns-then-m-eq-EB t c = stays_of c.block.ensures (parts_block _ _ _ _ _ c.if-m-eq-EB.true)
+pub parts-returns-in-19 : goal.parts-returns-in-19
+parts-returns-in-19 t c = stays_of c.block.ensures (parts_block _ _ _ _ _ c.in-19.is)
 
 pub parts-matching-requires : goal.parts-matching-requires
-parts-matching-requires t c = (omega (arith, c.decreases), (two_arms (at_mark c.requires.0 EM c.if-m-eq-EM.true), (c.requires.1.0, c.requires.1.1.0)))
+parts-matching-requires t c = (omega (arith, c.decreases), (two_arms (at_mark c.requires.0 EM c.in-22.is), (c.requires.1.0, c.requires.1.1.0)))
 
-pub parts-returns-then-m-eq-EM : goal.parts-returns-then-m-eq-EM
-parts-returns-then-m-eq-EM t c = stays_of c.matching.ensures (parts_match _ _ _ _ _ c.if-m-eq-EM.true)
+pub parts-returns-in-22 : goal.parts-returns-in-22
+parts-returns-in-22 t c = stays_of c.matching.ensures (parts_match _ _ _ _ _ c.in-22.is)
 
 pub parts-field_at-n-requires : goal.parts-field_at-n-requires
-parts-field_at-n-requires t c = arms_count (at_mark c.requires.0 EH c.if-m-eq-EH.true)
+parts-field_at-n-requires t c = arms_count (at_mark c.requires.0 EH c.in-23.is)
 
-pub parts-matching-requires-then-m-eq-EH : goal.parts-matching-requires-then-m-eq-EH
-parts-matching-requires-then-m-eq-EH t c =
-    (omega (arith, c.decreases), (enum_arms (at_mark c.requires.0 EH c.if-m-eq-EH.true) _ c.field_at-n.ensures, (c.requires.1.0, c.requires.1.1.0)))
+pub parts-matching-requires-in-23 : goal.parts-matching-requires-in-23
+parts-matching-requires-in-23 t c =
+    (omega (arith, c.decreases), (enum_arms (at_mark c.requires.0 EH c.in-23.is) _ c.field_at-n.ensures, (c.requires.1.0, c.requires.1.1.0)))
 
-pub parts-returns-then-m-eq-EH : goal.parts-returns-then-m-eq-EH
-parts-returns-then-m-eq-EH t c = stays_of c.matching-then-m-eq-EH.ensures (parts_enum _ _ _ _ _ _ c.if-m-eq-EH.true c.field_at-n.ensures)
+pub parts-returns-in-23 : goal.parts-returns-in-23
+parts-returns-in-23 t c = stays_of c.matching-in-23.ensures (parts_enum _ _ _ _ _ _ c.in-23.is c.field_at-n.ensures)
 
 pub parts-field_at-e-requires : goal.parts-field_at-e-requires
-parts-field_at-e-requires t c = cast_lies (at_mark c.requires.0 CK c.if-m-eq-CK.true)
+parts-field_at-e-requires t c = cast_lies (at_mark c.requires.0 CK c.in-31.is)
 
 pub parts-expression-requires : goal.parts-expression-requires
 parts-expression-requires t c =
-    let p = cast_part (at_mark c.requires.0 CK c.if-m-eq-CK.true) c.field_at-e.ensures in (omega (arith, c.decreases, p.below), (p.stands, (c.requires.1.0, enough_part _ _ c.requires.1.1.0 p.shallower (omega arith))))
+    let p = cast_part (at_mark c.requires.0 CK c.in-31.is) c.field_at-e.ensures in (omega (arith, c.decreases, p.below), (p.stands, (c.requires.1.0, enough_part _ _ c.requires.1.1.0 p.shallower (omega arith))))
 
-pub parts-returns-then-m-eq-CK : goal.parts-returns-then-m-eq-CK
-parts-returns-then-m-eq-CK t c = stays_of c.expression.ensures (parts_cast _ _ _ _ _ _ c.if-m-eq-CK.true c.field_at-e.ensures)
+pub parts-returns-in-31 : goal.parts-returns-in-31
+parts-returns-in-31 t c = stays_of c.expression.ensures (parts_cast _ _ _ _ _ _ c.in-31.is c.field_at-e.ensures)
 
-pub parts-returns : goal.parts-returns
-parts-returns t c = stays_of c.row.ensures (parts_row _ _ _ _ _ c.if-m-eq-EB.false c.if-m-eq-EM.false c.if-m-eq-EH.false c.if-m-eq-CK.false)
+pub parts-returns-in_default : goal.parts-returns-in_default
+parts-returns-in_default t c =
+    stays_of c.row.ensures (parts_row _ _ _ _ _ (search rules) (search rules) (search rules) (search rules))
 
 pub row-loop-k-init : goal.row-loop-k-init
 row-loop-k-init t c = at_once c.requires.1.0.rows (sym (row_start _ c.span_of-span.ensures))
