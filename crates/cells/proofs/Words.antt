@@ -138,10 +138,6 @@ module _ {t t₁ : List ℕ} {p q : Kept} (v : ℕ) where
   pub keep_wide : {k : ℕ} (i : ℕ) → k ≡ i → Keeps t p (λ n. store_value n (word i v)) q t₁ → Keeps t p (λ n. store_value n (word k v)) q t₁
   keep_wide i e d = rw e d
 
--- the widths are four
-pub fourth_width : (k : ℕ) → k ≤ 3 → (k ≡ 0 → ⊥) → (k ≡ 1 → ⊥) → (k ≡ 2 → ⊥) → k ≡ 3
-fourth_width k l a b d = omega arith
-
 -- the two words in the pair at cell x, whose kind is k
 module _ {t : List ℕ} {x k : ℕ} (j : ℕ) (kind : k ≡ kind_at t x) where
   pub words_other : (k ≡ pair_cell → ⊥) → Paired t j x None

@@ -1,7 +1,7 @@
 -- Tables of five bytes an entry: a kind, then two numbers of two bytes, low byte first. Nodes and cells are both held so.
 -- Past a table's end a byte reads as 0. Assumes nothing.
 use Rattle.std.specs.Prelude.{ℕ, ◌+◌, ◌*◌, List, slice_index}
-pub use Rattle.named.specs.Entry.{put}
+unfoldable pub use Rattle.named.specs.Entry.{put}
 
 -- document 01, Stored order: entry n's kind, and its two numbers
 unfoldable pub kind_at : List ℕ → ℕ → ℕ

@@ -8,7 +8,7 @@ ghost use Rattle.cells.specs.Keeping.{Fresh, Keeps};
 use book::word::word;
 use named::entry::write_entry;
 
-// The kinds of cells: document 01, CHECK and the meanings.
+// The kinds of cells, numbers as they are bytes of the table: document 01, CHECK and the meanings.
 pub const UNIT: u8 = 1;
 
 pub const LEFT: u8 = 2;

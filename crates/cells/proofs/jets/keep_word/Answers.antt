@@ -1,6 +1,7 @@
 -- `keep_word` meets its contract: each width by itself.
 -- Assumes nothing.
-use Rattle.cells.proofs.Words.{keep_wide, fourth_width}
+use Rattle.std.proofs.Common.{arith}
+use Rattle.cells.proofs.Words.{keep_wide}
 use Rattle.cells.proofs.jets.keep_word.Goals as goal
 
 pub returns-in-0 : goal.returns-in-0
@@ -14,4 +15,4 @@ returns-in-2 c = keep_wide _ 2 c.in-2.is c.store-in-2.ensures
 
 pub returns-in_default : goal.returns-in_default
 returns-in_default c =
-    keep_wide _ 3 (fourth_width _ c.requires c.in_default.in_default-own.rest.0.0.1 c.in_default.in_default-own.rest.0.1 c.in_default.in_default-own.rest.1) c.store-in_default.ensures
+    keep_wide _ 3 (omega arith) c.store-in_default.ensures

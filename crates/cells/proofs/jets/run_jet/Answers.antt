@@ -1,5 +1,6 @@
 -- `run_jet` meets its contract: by the jet's number.
 -- Assumes nothing.
+use Rattle.std.proofs.Common.{arith}
 use Rattle.cells.proofs.Deliveries.{jet_verify, jet_eq, jet_add, jet_missing}
 use Rattle.cells.proofs.jets.run_jet.Goals as goal
 
@@ -13,5 +14,4 @@ pub returns-in-2 : goal.returns-in-2
 returns-in-2 c = jet_add _ c.in-2.is c.add_8.ensures
 
 pub returns-in_default : goal.returns-in_default
-returns-in_default c =
-    jet_missing _ c.in_default.in_default-own.rest.0.0.1 c.in_default.in_default-own.rest.0.1 c.in_default.in_default-own.rest.1
+returns-in_default c = jet_missing _ (λ e. omega arith) (λ e. omega arith) (λ e. omega arith)

@@ -1,6 +1,7 @@
 -- `word_at` meets its contract: each width by itself.
 -- Assumes nothing.
-use Rattle.cells.proofs.Words.{word_wide, fourth_width}
+use Rattle.std.proofs.Common.{arith}
+use Rattle.cells.proofs.Words.{word_wide}
 use Rattle.cells.proofs.jets.word_at.Goals as goal
 
 pub returns-in-0 : goal.returns-in-0
@@ -14,4 +15,4 @@ returns-in-2 c = word_wide c.in-2.is c.at-in-2.ensures
 
 pub returns-in_default : goal.returns-in_default
 returns-in_default c =
-    word_wide (fourth_width _ c.requires c.in_default.in_default-own.rest.0.0.1 c.in_default.in_default-own.rest.0.1 c.in_default.in_default-own.rest.1) c.at-in_default.ensures
+    word_wide {i = 3} (omega arith) c.at-in_default.ensures
