@@ -84,17 +84,14 @@ module _ (g : Given) (c : ℕ) {t t₁ : List ℕ} {p : Kept} (z : t ≡ zeros (
       record { answer = an.answer ∙ ap answer_of (sym (ap result_of q ∙ result_add st.t _)); table = rw l at an.table ∙ ap (cells_of (length t)) (sym (ap result_of q ∙ result_add st.t _)) }
 
 -- AFTER READ: the check
-bad_well : {p : ℕ} → ◌≡◌ {A = Judged} (Err p) (Ok tt) → ⊥
-bad_well e = absurd (let z : ◌≡◌ {A = ℕ} 0 1 = ap (λ (j : Judged). elim j [ Ok x ↦ 1 | Err n ↦ 0 ]) e in omega arith)
-
 -- a table that passed has a count in range
 pub well_counts : {v : Judged} (b : Text) (ns : List ℕ) (c : ℕ) → v ≡ judge b ns c → v ≡ Ok tt → (0 < c) × (c ≤ 65535)
 unfolding judge
 well_counts b ns c e w = go _ (eqb c 0) (ltb 65535 c) refl refl (sym e ∙ w)
   where
     go : (x : Judged) (p q : Bool) → eqb c 0 ≡ p → ltb 65535 c ≡ q → pick p (Err 0) (pick q (Err 65535) x) ≡ Ok tt → (0 < c) × (c ≤ 65535)
-    go x true q a d h = absurd (bad_well h)
-    go x false true a d h = absurd (bad_well h)
+    go x true q a d h = absurd (cc)
+    go x false true a d h = absurd (cc)
     go x false false a d h = let z = eqb-false c 0 a in (omega (arith, z), ltb-false 65535 c d)
 
 module _ (g : Given) (c : ℕ) (t : List ℕ) {v : Judged} (e : v ≡ judge g.book g.nodes c) where

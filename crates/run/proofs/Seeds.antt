@@ -26,6 +26,7 @@ use Rattle.run.specs.Whole.{part_of, seed, seed_one, seeds}
 use Rattle.machine.specs.Machine.{Placed}
 use Rattle.run.specs.Calls.{Seeded, Started}
 use Rattle.cells.specs.declared.table.Kept.{Kept}
+use Rattle.cells.proofs.Outs.{add_none}
 use Rattle.nodes.proofs.Checks.{holds_inside}
 
 -- the first r records are numbered: the row has their cells and zeros beyond, and the next value's cell is this
@@ -131,12 +132,6 @@ module _ (b : Text) (r : ℕ) where
   pub seed_pair : {x y : ℕ} → mark b.bytes b.index r ≡ VP → x ≡ part_of b r 1 → y ≡ part_of b r 2 → store 0 pair_cell x y ≡ seed b r
   unfolding seed
   seed_pair e p q = rw (e, p, q)
-
--- nothing more to enter
-add_none : (o : Out) → add 0 o ≡ o
-unfolding add
-add_none (got s v w) = let z : 0 + s ≡ s = omega arith in rw z
-add_none (halt s e n) = let z : 0 + s ≡ s = omega arith in rw z
 
 -- a value's cell that is handed on
 bind_same : (o : Out) → o ≡ bind o (λ v w. got 0 v w)

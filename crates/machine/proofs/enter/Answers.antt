@@ -61,12 +61,6 @@ pub returns-in-15 : goal.returns-in-15
 returns-in-15 c =
     turned_handed c.requires.step_is.0 c.if-s-ge-DEEPEST.false c.enter_jet.ensures (λ kids. kind_jet _ _ _ _ kids _ (sym c.kind_at-kind.ensures ∙ c.in-15.is) c.left_at-in-15.ensures)
 
-pub returns-in-5-to-6 : goal.returns-in-5-to-6
-returns-in-5-to-6 c = c.enter_part.ensures _ _
-
 pub returns-in_default : goal.returns-in_default
 returns-in_default c =
     turned_answers c.requires.step_is.0 c.if-s-ge-DEEPEST.false c.halt-in_default.ensures (λ kids. kind_none _ _ _ _ kids _ (sym c.kind_at-kind.ensures) (range_none _ c.in_default-1.rest (elim c.in_default.branch [ in_default-via-then-kind-lt1 w ↦ inl (search rules) | in_default-via-else-kind-lt1+else-kind-lt7+else-kind-lt12 w ↦ inr (search rules) ])))
-
-pub returns-in-8-to-11 : goal.returns-in-8-to-11
-returns-in-8-to-11 c = c.enter_case.ensures _ _

@@ -3,15 +3,12 @@
 use native.Mathlib.Omega.{arith}
 use mathlib.Core.Path.{sym, ◌∙◌}
 use Rattle.book.specs.Text.{text}
-use Rattle.run.proofs.Seeds.{zeros_length, few_values, number_none, number_value, number_other, number_all}
+use Rattle.run.proofs.Seeds.{few_values, number_none, number_value, number_other, number_all}
 use Rattle.run.proofs.initial.number_values.Goals as goal
 use Rattle.run.proofs.initial.number_values.Goals.{then-is_of, else-is_of}
 
 pub loop-r-init : goal.loop-r-init
 loop-r-init c = number_none (text _ _ _) _ c.requires.row_is
-
-pub bounds-row-r : goal.bounds-row-r
-bounds-row-r c = omega (arith, c.loop-r.invariant.inside, c.loop-r.invariant.sized, c.requires.valid.rows.few)
 
 pub overflow_add-next : goal.overflow_add-next
 overflow_add-next c =
@@ -26,9 +23,6 @@ loop-r-preserved c =
       | then-is_of w ↦ rw (w.row-is, w.next-is) (number_value (text _ _ _) h l (omega (arith, c.requires.valid.rows.few)) (e ∙ w.if-is_of.true))
       | else-is_of w ↦ rw (w.row-is, w.next-is) (number_other (text _ _ _) h l (e ∙ w.if-is_of.false))
     ]
-
-pub shape_of-row : goal.shape_of-row
-shape_of-row c = c.loop-r.invariant.sized ∙ sym (zeros_length _ c.requires.row_is)
 
 pub returns : goal.returns
 returns c = number_all (text _ _ _) c.loop-r.invariant c.loop-r-test.false

@@ -5,9 +5,6 @@ use Rattle.book.specs.Text.{text}
 use Rattle.run.proofs.Seeds.{start_unit, start_one, start_all}
 use Rattle.run.proofs.initial.seed_cells.Goals as goal
 
-pub loop-r-init : goal.loop-r-init
-loop-r-init c = λ s h. h
-
 pub loop-r-preserved : goal.loop-r-preserved
 loop-r-preserved c = λ s h. start_one (text _ _ _) _ (c.loop-r.invariant s h) c.seed_one-p.ensures
 

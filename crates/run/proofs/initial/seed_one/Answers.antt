@@ -5,9 +5,6 @@ use Rattle.book.specs.Text.{text}
 use Rattle.run.proofs.Seeds.{one_value, one_other}
 use Rattle.run.proofs.initial.seed_one.Goals as goal
 
-pub seed_value-requires : goal.seed_value-requires
-seed_value-requires c = record { sound = c.requires.sound; holds_is = sym c.is_of.ensures ∙ c.if-is_of.true }
-
 pub returns-then-is_of : goal.returns-then-is_of
 returns-then-is_of c = one_value (text _ _ _) _ c.requires.r_in_range (sym c.is_of.ensures ∙ c.if-is_of.true) c.seed_value.ensures
 
