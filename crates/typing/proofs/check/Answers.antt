@@ -14,7 +14,7 @@ returns c =
 
 pub returns-in_err-records : goal.returns-in_err-records
 returns-in_err-records c =
-    let p = err_from_is_err_and c.from_residual-2.result c.from_residual-2.ensures.1 in
+    let p = err_from_is_err_and c.from_residual-in_err-records.result c.from_residual-in_err-records.ensures.1 in
     rw (p.1, p.2) (check_refused _ c.index_book-indexed.ensures.0 _ c.index_book-indexed.ensures.1 c.in_ok-n.was (rw c.new-book.ensures at c.records.ensures) c.in_err-records.was)
 
 pub returns-in_err-n : goal.returns-in_err-n

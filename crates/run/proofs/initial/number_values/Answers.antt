@@ -17,7 +17,7 @@ overflow_add-next c =
 pub loop-r-preserved : goal.loop-r-preserved
 loop-r-preserved c =
     let h = c.loop-r.invariant in
-    let l = c.loop-r-test.true in
+    let l = rw c.records-r-end.ensures at c.loop-r-test.true in
     let e = sym c.is_of.ensures in
     elim c.if-is_of.branch [
       | then-is_of w ↦ rw (w.row-is, w.next-is) (number_value (text _ _ _) h l (omega (arith, c.requires.valid.rows.few)) (e ∙ w.if-is_of.true))
@@ -25,4 +25,4 @@ loop-r-preserved c =
     ]
 
 pub returns : goal.returns
-returns c = number_all (text _ _ _) c.loop-r.invariant c.loop-r-test.false
+returns c = number_all (text _ _ _) c.loop-r.invariant (rw c.records-r-end.ensures at c.loop-r-test.false)
