@@ -21,11 +21,11 @@ use Rattle.typing.specs.Cycle.{Enough}
 -- the deeper of two is below neither
 deeper_first : (d e : ℕ) → d ≤ deeper d e
 unfolding deeper
-deeper_first d e = by_lt d e (λ h. rw (lt-ltb d e h) (omega arith)) (λ h. rw (le-ltb d e h) (omega arith))
+deeper_first d e = omega arith
 
 deeper_second : (d e : ℕ) → e ≤ deeper d e
 unfolding deeper
-deeper_second d e = by_lt d e (λ h. rw (lt-ltb d e h) (omega arith)) (λ h. rw (le-ltb d e h) (omega arith))
+deeper_second d e = omega arith
 
 module _ (b i : List ℕ) where
   -- the deepest so far is not above the deepest of all, and no field's is
