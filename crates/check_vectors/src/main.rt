@@ -3,7 +3,7 @@
 // length (three bytes, low first), and the book.
 #![tactic(auto)]
 
-use book::fault::fault_number;
+use book::fault::{Refusal, fault_number};
 use console::read_full;
 use std::io;
 use std::io::Read;

@@ -6,6 +6,7 @@ ghost use Rattle.std.specs.Io.KnownBytes.{Appends};
 ghost use Rattle.typing.specs.Whole.{check_of};
 ghost use Rattle.checkbook.specs.Shown.{shown};
 
+use book::fault::Refusal;
 use console::{print_count, print_refusal, read_full};
 use std::io;
 use std::io::{Read, Write};

@@ -6,7 +6,7 @@ ghost use Rattle.compile.specs.Whole.{lower_of, table_of};
 ghost use Rattle.run.specs.Whole.{run_of, table_of as cells_of};
 ghost use Rattle.host.specs.Outcome.{asked, outcome_of, ran, ran_of};
 
-use book::fault::fault_number;
+use book::fault::{Refusal, fault_number};
 use compile::lower;
 use run::{Outcome, run};
 

@@ -4,7 +4,7 @@
 // follows the counted nodes must be zero. Numbers are low byte first.
 #![tactic(auto)]
 
-use book::fault::fault_number;
+use book::fault::{Refusal, fault_number};
 use compile::lower;
 use console::read_full;
 use std::io;

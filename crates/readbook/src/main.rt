@@ -6,6 +6,7 @@ ghost use Rattle.std.specs.Io.KnownBytes.{Appends};
 ghost use Rattle.book.specs.Read.{read_of};
 ghost use Rattle.readbook.specs.Shown.{shown};
 
+use book::fault::Refusal;
 use console::{print_count, print_refusal, read_full};
 use std::io;
 use std::io::{Read, Write};

@@ -7,7 +7,7 @@
 
 ghost use Rattle.std.specs.Prelude.{◌+◌, ◌*◌, ◌≤◌, ◌<◌, length};
 
-use book::fault::fault_number;
+use book::fault::{Refusal, fault_number};
 use book::word::word;
 use console::read_full;
 use run::{Outcome, run};
