@@ -11,13 +11,15 @@ use lib.ListN.{length, get_or, set, take, length-set}
 use lib.Pow.{pow_pos, shl_exact}
 use lib.Seq.{get_or-take, get_or-set_same, take-set-le, take-suc, append_snoc}
 use Rattle.laws.specs.Order.{by_lt, pow_less}
+use Rattle.std.specs.Prelude.{Result, Ok, Err}
+use Rattle.book.specs.declared.fault.Refusal.{Refusal}
 use Rattle.array.specs.Split.{top_of}
 use Rattle.array.proofs.Splits.{top_of_lem}
 use Rattle.named.specs.Trace.{Run, pure, bind}
-use Rattle.named.specs.Draws.{Draws}
-use Rattle.named.specs.declared.node.Pen.{Pen}
+use Rattle.named.specs.Stores.{Done}
+use Rattle.named.specs.Table.{Table}
 use Rattle.named.proofs.Runs.{bind_bind, bind_pure}
-use Rattle.named.proofs.Pens.{draw_then, draw_there}
+use Rattle.named.proofs.Storing.{then, halt, done_pure}
 use Rattle.builtins.specs.ArrayFold.{f_array_fold, powers, tree_fold, array_fold}
 
 -- below 2 ^ k, it is at a place below k
@@ -71,12 +73,13 @@ tree_more_at r fs n d e l =
     ap (λ (i : ℕ). tree_fold i r fs n) e ∙ tree_step r fs n d l
     ∙ ap (join r fs n) (tree_calls r fs d (n - 2 ^ top_of n) (n - 2 ^ top_of n) (omega arith) (omega (arith, pow_pos (top_of n))) (omega arith))
 
-module _ {r : ℕ} {t : List ℕ} {p : Pen} (fs : List ℕ) (n k u : ℕ) (some : 0 < n) (is : k ≡ top_of n) (taken : Taken n u) where
-  pub tree_one : n - u ≡ 0 → Draws r t p (tree_fold n r fs n) (record { next = p.next; root = get_or fs k 0; full = p.full }) t
-  tree_one e = rw (tree_top r fs n n (omega (arith, taken.is, taken.fits)), ← is) (draw_there r t p (get_or fs k 0))
+-- a tree by the place k and the power u of the top one
+module _ (r : ℕ) (fs : List ℕ) (n k u : ℕ) (some : 0 < n) (is : k ≡ top_of n) (taken : Taken n u) where
+  pub tree_one : (d : Table) → n - u ≡ 0 → Done d (tree_fold n r fs n) (Ok (get_or fs k 0)) d
+  tree_one d e = rw (tree_top r fs n n (omega (arith, taken.is, taken.fits)), ← is) (done_pure d (get_or fs k 0))
 
-  pub tree_more : {t₁ t₂ : List ℕ} {q s : Pen} → 0 < n - u → Draws r t p (tree_fold (n - u) r fs (n - u)) q t₁ → Draws r t₁ q (f_array_fold r q.root (get_or fs k 0)) s t₂ → Draws r t p (tree_fold n r fs n) s t₂
-  tree_more h a b = rw (tree_more_at r fs n (n - 1) (omega arith) (omega (arith, taken.is))) (draw_then _ (rw taken.is at a) (rw is at b))
+  pub tree_more : 0 < n - u → tree_fold n r fs n ≡ bind (tree_fold (n - u) r fs (n - u)) (λ left. f_array_fold r left (get_or fs k 0))
+  tree_more h = tree_more_at r fs n (n - 1) (omega arith) (omega (arith, taken.is)) ∙ rw (taken.is, is) refl
 
 -- only the powers up to the top one count
 tree_take : (r : ℕ) (fs : List ℕ) (k d n : ℕ) → 0 < n → n < 2 ^ k → tree_fold d r (take k fs) n ≡ tree_fold d r fs n
@@ -107,18 +110,25 @@ onward r n m fs k = bind (powers r (m - k) (get_or fs k 0)) (λ gs. tree_of r n 
 
 module _ (r n m k : ℕ) (fs : List ℕ) (fits : m < length fs) where
   -- one power more
-  power_next : {t t₁ t₂ : List ℕ} {p q s : Pen} → k < m → Draws r t p (f_array_fold r (get_or fs k 0) (get_or fs k 0)) q t₁ → Draws r t₁ q (onward r n m (set fs (k + 1) q.root) (k + 1)) s t₂ → Draws r t p (onward r n m fs k) s t₂
-  power_next {q = q} h d o =
+  power_next : {d d₁ d₂ : Table} {x : ℕ} {s : Result ℕ Refusal} → k < m → Done d (f_array_fold r (get_or fs k 0) (get_or fs k 0)) (Ok x) d₁ → Done d₁ (onward r n m (set fs (k + 1) x) (k + 1)) s d₂ → Done d (onward r n m fs k) s d₂
+  power_next {x = x} h p o =
       let g : ℕ = get_or fs k 0 in
-      let gs : List ℕ = set fs (k + 1) q.root in
+      let gs : List ℕ = set fs (k + 1) x in
       let j : ℕ = m - (k + 1) in
       let e : m - k ≡ suc j = omega arith in
-      let a : get_or gs (k + 1) 0 ≡ q.root = get_or-set_same fs (k + 1) q.root 0 (omega arith) in
-      let b : take (k + 1) gs ≡ take k fs ++ (g ∷ []) = take-set-le (k + 1) fs (k + 1) q.root (omega arith) ∙ rw add-one (take-suc fs k 0 (omega arith)) in
-      let z : onward r n m gs (k + 1) ≡ bind (powers r j q.root) (λ xs. tree_of r n (take k fs ++ g ∷ xs)) =
-      ap (λ (x : ℕ). bind (powers r j x) (λ xs. tree_of r n (take (k + 1) gs ++ xs))) a
-      ∙ ap (λ (f : List ℕ → List ℕ). bind (powers r j q.root) (λ xs. tree_of r n (f xs))) (λ i xs. (ap (λ (ys : List ℕ). ys ++ xs) b ∙ append_snoc (take k fs) g xs) i) in
-      rw (e, powers_step r (λ xs. tree_of r n (take k fs ++ xs)) j g) (draw_then _ d (rw z at o))
+      let a : get_or gs (k + 1) 0 ≡ x = get_or-set_same fs (k + 1) x 0 (omega arith) in
+      let b : take (k + 1) gs ≡ take k fs ++ (g ∷ []) = take-set-le (k + 1) fs (k + 1) x (omega arith) ∙ rw add-one (take-suc fs k 0 (omega arith)) in
+      let z : onward r n m gs (k + 1) ≡ bind (powers r j x) (λ xs. tree_of r n (take k fs ++ g ∷ xs)) =
+      ap (λ (y : ℕ). bind (powers r j y) (λ xs. tree_of r n (take (k + 1) gs ++ xs))) a
+      ∙ ap (λ (f : List ℕ → List ℕ). bind (powers r j x) (λ xs. tree_of r n (f xs))) (λ i xs. (ap (λ (ys : List ℕ). ys ++ xs) b ∙ append_snoc (take k fs) g xs) i) in
+      rw (e, powers_step r (λ xs. tree_of r n (take k fs ++ xs)) j g) (then _ p (rw z at o))
+
+  -- or it is refused
+  power_stop : {d d₁ : Table} {w : Refusal} → k < m → Done d (f_array_fold r (get_or fs k 0) (get_or fs k 0)) (Err w) d₁ → Done d (onward r n m fs k) (Err w) d₁
+  power_stop h p =
+      let j : ℕ = m - (k + 1) in
+      let e : m - k ≡ suc j = omega arith in
+      rw (e, powers_step r (λ xs. tree_of r n (take k fs ++ xs)) j (get_or fs k 0)) (halt _ p)
 
   -- no power more: the tree is left
   power_last : k ≤ m → m ≤ k → onward r n m fs k ≡ tree_of r n (take (suc m) fs)
@@ -128,42 +138,46 @@ module _ (r n m k : ℕ) (fs : List ℕ) (fits : m < length fs) where
       let e : m - m ≡ 0 = omega arith in
       rw (z, e, bind_pure (get_or fs m 0 ∷ []) (λ gs. tree_of r n (take m fs ++ gs)), take-suc fs m 0 fits)
 
--- an array fold of n for record r by f, begun at the table t₀ and the pen p₀: the row fs has its powers up to place k, and what is left of
--- it, drawn from the table t and the pen p, makes the whole
-pub record Going (r n f m : ℕ) (t₀ : List ℕ) (p₀ : Pen) (t : List ℕ) (fs : List ℕ) (p : Pen) (k : ℕ) : Type 0 where
+-- an array fold of n for record r by f, begun at the table d₀: the row fs has its powers up to place k, and what is left of it, from
+-- the table d on, makes the whole
+pub record Going (r n f m : ℕ) (d₀ d : Table) (fs : List ℕ) (k : ℕ) : Type 0 where
   pub place : m ≡ top_of n
   pub reached : k ≤ m
   pub most : m ≤ 8
   pub nine : length fs ≡ 9
-  pub kept : length t ≡ length t₀
-  pub onto : (s : Pen) (u : List ℕ) → Draws r t p (onward r n m fs k) s u → Draws r t₀ p₀ (bind (powers r (m - 0) f) (tree_of r n)) s u
+  pub onto : (s : Result ℕ Refusal) (u : Table) → Done d (onward r n m fs k) s u → Done d₀ (bind (powers r (m - 0) f) (tree_of r n)) s u
 
 module _ (r n f m : ℕ) (some : 0 < n) where
-  pub going_first : (t : List ℕ) (p : Pen) (row : List ℕ) → n ≤ 256 → m ≡ top_of n → length row ≡ 8 → Going r n f m t p t (f ∷ row) p 0
-  going_first t p row h e l = record {
+  pub going_first : (d : Table) (row : List ℕ) → n ≤ 256 → m ≡ top_of n → length row ≡ 8 → Going r n f m d d (f ∷ row) 0
+  going_first d row h e l = record {
     place = e;
     reached = omega arith;
     most = omega (arith, top_below n 9 some (omega arith));
     nine = ap suc l;
-    kept = refl;
-    onto = λ s u d. d;
+    onto = λ s u p. p;
   }
 
-  module _ {t₀ t t₁ : List ℕ} {p₀ p q : Pen} (fs : List ℕ) (k : ℕ) (g : Going r n f m t₀ p₀ t fs p k) where
-    pub going_next : k < m → Draws r t p (f_array_fold r (get_or fs k 0) (get_or fs k 0)) q t₁ → Going r n f m t₀ p₀ t₁ (set fs (k + 1) q.root) q (k + 1)
-    going_next h d = record {
+  module _ {d₀ d d₁ : Table} (fs : List ℕ) (k : ℕ) (g : Going r n f m d₀ d fs k) where
+    pub going_next : {x : ℕ} → k < m → Done d (f_array_fold r (get_or fs k 0) (get_or fs k 0)) (Ok x) d₁ → Going r n f m d₀ d₁ (set fs (k + 1) x) (k + 1)
+    going_next {x} h p = record {
       place = g.place;
       reached = omega arith;
       most = g.most;
-      nine = length-set fs (k + 1) q.root ∙ g.nine;
-      kept = d.kept ∙ g.kept;
-      onto = λ s u e. g.onto s u (power_next r n m k fs (omega (arith, g.nine, g.most)) h d e);
+      nine = length-set fs (k + 1) x ∙ g.nine;
+      onto = λ s u e. g.onto s u (power_next r n m k fs (omega (arith, g.nine, g.most)) h p e);
     }
 
-    pub going_last : m ≤ k → Draws r t p (tree_fold n r fs n) q t₁ → Draws r t₀ p₀ (array_fold r n f) q t₁
+    -- a power is refused
+    pub going_stop : {w : Refusal} → k < m → Done d (f_array_fold r (get_or fs k 0) (get_or fs k 0)) (Err w) d₁ → Done d₀ (array_fold r n f) (Err w) d₁
     unfolding array_fold
-    going_last h d =
+    going_stop {w} h p =
+        let z : m - 0 ≡ top_of n = omega (arith, g.place) in
+        rw z at (g.onto (Err w) d₁ (power_stop r n m k fs (omega (arith, g.nine, g.most)) h p))
+
+    pub going_last : {s : Result ℕ Refusal} → m ≤ k → Done d (tree_fold n r fs n) s d₁ → Done d₀ (array_fold r n f) s d₁
+    unfolding array_fold
+    going_last {s} h p =
         let l : n < 2 ^ suc m = rw g.place (omega (arith, top_of_lem n some, two-pow-succ (top_of n))) in
         let e : onward r n m fs k ≡ tree_fold n r fs n = power_last r n m k fs (omega (arith, g.nine, g.most)) g.reached h ∙ tree_take r fs (suc m) n n some l in
         let z : m - 0 ≡ top_of n = omega (arith, g.place) in
-        rw z at (g.onto q t₁ (rw e d))
+        rw z at (g.onto s d₁ (rw e p))

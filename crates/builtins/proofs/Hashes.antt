@@ -11,9 +11,6 @@ use Rattle.array.specs.Split.{split_of}
 use Rattle.array.proofs.Rows.{row_none, row_one, row_step}
 use Rattle.jet.specs.Jets.{add_of}
 use Rattle.named.specs.Combinators.{TAKE, jet, select, joined}
-use Rattle.named.specs.Draws.{Draws}
-use Rattle.named.specs.declared.node.Pen.{Pen}
-use Rattle.named.proofs.Pens.{draw_then}
 use Rattle.builtins.specs.RawHash.{add_both, add_row, Widths}
 
 module _ (r : ℕ) where
@@ -30,19 +27,25 @@ module _ (r : ℕ) where
   add_parts ws h = rw (row_step (select r (TAKE ∷ [])) (joined (add_both r)) (map (λ w. jet r (add_of w)) ws) (rw map_length h), map_length, map_take, map_drop)
 
 -- widths by their length
-module _ {r : ℕ} {t : List ℕ} {p : Pen} where
-  pub add_none : {t₁ : List ℕ} {q : Pen} (ws : List ℕ) → length ws < 1 → Draws r t p (select r (TAKE ∷ [])) q t₁ → Draws r t p (add_row r ws) q t₁
-  add_none [] h d = rw (add_empty r) d
-  add_none (w ∷ ws) h d = absurd (omega arith)
+module _ (r : ℕ) (ws : List ℕ) where
+  pub add_none : length ws < 1 → add_row r ws ≡ select r (TAKE ∷ [])
+  add_none h = none ws h
+    where
+      none : (vs : List ℕ) → length vs < 1 → add_row r vs ≡ select r (TAKE ∷ [])
+      none [] l = add_empty r
+      none (v ∷ vs) l = absurd (omega arith)
 
-  pub add_one : {t₁ : List ℕ} {q : Pen} (ws : List ℕ) {j : ℕ} → 1 ≤ length ws → length ws < 2 → j ≡ add_of (get_or ws 0 0) → Draws r t p (jet r j) q t₁ → Draws r t p (add_row r ws) q t₁
-  add_one [] h l a d = absurd (omega arith)
-  add_one (w ∷ []) h l a d = rw (add_word r w, ← a) d
-  add_one (w ∷ v ∷ ws) h l a d = absurd (omega arith)
+  pub add_one : {j : ℕ} → 1 ≤ length ws → length ws < 2 → j ≡ add_of (get_or ws 0 0) → add_row r ws ≡ jet r j
+  add_one {j} h l e = one ws h l e
+    where
+      one : (vs : List ℕ) → 1 ≤ length vs → length vs < 2 → j ≡ add_of (get_or vs 0 0) → add_row r vs ≡ jet r j
+      one [] p q a = absurd (omega arith)
+      one (v ∷ []) p q a = rw a (add_word r v)
+      one (v ∷ w ∷ vs) p q a = absurd (omega arith)
 
   -- two or more: the parts that they split into, and then both
-  pub add_more : {t₁ t₂ t₃ : List ℕ} {q s v : Pen} {c : ℕ} {ls gs : List ℕ} (ws : List ℕ) → 2 ≤ length ws → c ≡ split_of (length ws) → ls ≡ take c ws → gs ≡ drop c ws → Draws r t p (add_row r ls) q t₁ → Draws r t₁ q (add_row r gs) s t₂ → Draws r t₂ s (add_both r q.root s.root) v t₃ → Draws r t p (add_row r ws) v t₃
-  add_more ws two e l g d f o = rw (add_parts r ws two, ← e, ← l, ← g) (draw_then _ d (draw_then _ f o))
+  pub add_more : {c : ℕ} {ls gs : List ℕ} → 2 ≤ length ws → c ≡ split_of (length ws) → ls ≡ take c ws → gs ≡ drop c ws → add_row r ws ≡ joined (add_both r) (add_row r ls) (add_row r gs)
+  add_more two e l g = rw (l, g, e) (add_parts r ws two)
 
 -- both parts of a row of hash widths are such a row
 module _ {ws ls : List ℕ} (c : ℕ) (w : Widths (length ws) ws) where

@@ -1,12 +1,14 @@
 // The fold of an array: powers of two first, then the size's own powers joined. O is left, I is right.
-ghost use Rattle.std.specs.Prelude.{◌≡◌, ◌-◌, ◌^◌, ◌≤◌, ◌<◌, length};
-ghost use Rattle.named.specs.Cut.{room};
-ghost use Rattle.named.specs.Draws.{Draws};
+#![tactic(auto, using(named::proofs::Storing::then, named::proofs::Storing::halt, named::proofs::Storing::handed), unfolding(crate::specs::ArrayFold::f_array_fold))]
+
+ghost use Rattle.std.specs.Prelude.{◌^◌, ◌≤◌, ◌<◌, length};
+ghost use Rattle.named.specs.Stores.{Done};
 ghost use Rattle.builtins.specs.ArrayFold.{f_array_fold, tree_fold, array_fold, FoldNodes};
 
 use array::top;
+use book::fault::{Fault, Refusal};
 use named::build::{applied, select};
-use named::node::{DROP, Pen, TAKE};
+use named::node::{DROP, Nodes, TAKE};
 
 // How many nodes the fold of an array stores beyond the body: twelve for each power above the first, and for each one bit but the
 // top one's.
@@ -19,55 +21,49 @@ pub fn array_fold_nodes(size: u16) -> u16
 }
 
 // Two folds, one after the other.
-fn f_array_fold(nodes: &mut [u8], place: u16, pen: Pen, left: u16, right: u16) -> Pen
-    ensures { Draws place nodes.old pen (f_array_fold place left right) result nodes.new }
+fn f_array_fold(nodes: &mut Nodes, place: u16, left: u16, right: u16) -> Result<u16, Refusal>
+    ensures { Done nodes.old (f_array_fold place left right) result nodes.new }
 {
     let oo = [TAKE, TAKE];
     let oi = [TAKE, DROP];
     let i = [DROP];
-    let first = select(nodes, place, pen, &oo);
-    let second = select(nodes, place, first, &oi);
-    let start = select(nodes, place, second, &i);
-    let middle = applied(nodes, place, start, left, first.root, start.root);
-    applied(nodes, place, middle, right, second.root, middle.root)
+    let first = select(nodes, place, &oo)?;
+    let second = select(nodes, place, &oi)?;
+    let start = select(nodes, place, &i)?;
+    let middle = applied(nodes, place, left, first, start)?;
+    applied(nodes, place, right, second, middle)
 }
 
 // The fold of n elements by the powers: the top power of n on the right, what is left of n on the left.
-fn tree_fold(nodes: &mut [u8], place: u16, pen: Pen, powers: &[u16], n: u32) -> Pen
+fn tree_fold(nodes: &mut Nodes, place: u16, powers: &[u16], n: u32) -> Result<u16, Refusal>
     requires { (0 < n) × ((n < 2 ^ length powers.now) × (n ≤ 256)) }
-    ensures { Draws place nodes.old pen (tree_fold n place powers.now n) result nodes.new }
+    ensures { Done nodes.old (tree_fold n place powers.now n) result nodes.new }
 {
     let most = top(n);
     let right = powers[most as usize];
     let rest = n - (1 << most);
     if rest == 0 {
-        return Pen { root: right, ..pen };
+        return Ok(right);
     }
-    let left = tree_fold(nodes, place, pen, powers, rest);
-    f_array_fold(nodes, place, left, left.root, right)
-}
-
-// How many nodes more a table of so many bytes holds: document 01, Stored order.
-fn room_left(bytes: usize, next: u16) -> usize
-    ensures { result ≡ room bytes - next }
-{
-    (bytes / 5).min(65535).saturating_sub(next as usize)
+    let left = tree_fold(nodes, place, powers, rest)?;
+    f_array_fold(nodes, place, left, right)
 }
 
 // Folds an array of 1 to 256 elements. Where the table has no room for the whole fold, none of it is begun.
-pub fn array_fold(nodes: &mut [u8], place: u16, pen: Pen, size: u16, f: u16) -> Pen
+pub fn array_fold(nodes: &mut Nodes, place: u16, size: u16, f: u16) -> Result<u16, Refusal>
     requires { (0 < size) × (size ≤ 256) }
-    ensures { Draws place nodes.old pen (array_fold place size f) result nodes.new }
+    ensures { Done nodes.old (array_fold place size f) result nodes.new }
 {
-    if room_left(nodes.len(), pen.next) < array_fold_nodes(size) as usize {
-        return Pen { full: true, ..pen };
+    if nodes.room() < array_fold_nodes(size) as usize {
+        return Err(Refusal {
+            fault: Fault::Room,
+            place,
+        });
     }
     let most = top(size as u32) as usize;
     let mut powers = [f; 9];
-    let mut at = pen;
     for k in 0..most {
-        at = f_array_fold(nodes, place, at, powers[k], powers[k]);
-        powers[k + 1] = at.root;
+        powers[k + 1] = f_array_fold(nodes, place, powers[k], powers[k])?;
     }
-    tree_fold(nodes, place, at, &powers, size as u32)
+    tree_fold(nodes, place, &powers, size as u32)
 }

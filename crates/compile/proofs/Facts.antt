@@ -21,10 +21,10 @@ use Rattle.book.specs.declared.fault.Refusal.{Refusal}
 use Rattle.book.proofs.Roles.{layout, is_kind}
 use Rattle.book.proofs.Standing.{stands_mark, function_mark, head_lies, head_stands, head_below, last_lies, last_stands, last_below, tail_stands, tail_below}
 use Rattle.named.specs.Trace.{Run, bind}
-use Rattle.named.specs.Draws.{Done, Fills}
-use Rattle.named.specs.declared.node.Placed.{Placed}
+use Rattle.named.specs.Stores.{Done, Fills}
+use Rattle.named.specs.Table.{Table}
 use Rattle.named.specs.Combinators.{unit}
-use Rattle.named.proofs.Pens.{then, halt, all_then, all_halt}
+use Rattle.named.proofs.Storing.{then, halt, all_then, all_halt}
 use Rattle.scope_bindings.specs.Scope.{scope_of, ScopeStands, of_pattern, Roots, Inserts}
 use Rattle.scope_bindings.specs.declared.ScopeBindings.{ScopeBindings}
 use Rattle.scope_bindings.proofs.Scopes.{bound_pattern, scope_count, scope_root, scope_insert, insert_stands}
@@ -76,11 +76,11 @@ module _ {b i : List ℕ} {s s' : ScopeBindings} {p : ℕ} (v : ScopeStands b i 
   pub inner_stands : ScopeStands b i s'
   inner_stands = insert_stands v room (of_pattern k) n
 
-  pub arm_done : {t t' : List ℕ} {c : ℕ} {q : Result Placed Refusal} (y : Bool) (r e : ℕ) → Done t c (lower y (expr_of b i e) (scope_of b i s')) q t' → Done t c (binding r (scope_of b i s) (lower y (expr_of b i e) (pattern_of b i p ∷ scope_of b i s))) q t'
+  pub arm_done : {t t' : Table} {q : Result ℕ Refusal} (y : Bool) (r e : ℕ) → Done t (lower y (expr_of b i e) (scope_of b i s')) q t' → Done t (binding r (scope_of b i s) (lower y (expr_of b i e) (pattern_of b i p ∷ scope_of b i s))) q t'
   arm_done y r e d = at_fits (length (scope_of b i s)) r (rw scope_count room) (rw inner_is at d)
 
-pub arm_full : (b i : List ℕ) (s : ScopeBindings) (t : List ℕ) (c r : ℕ) (m : Run ℕ) → 256 ≤ s.count → Done t c (binding r (scope_of b i s) m) (Err (refusal Bindings r)) t
-arm_full b i s t c r m h = at_full (length (scope_of b i s)) t c r m (rw scope_count h)
+pub arm_full : (b i : List ℕ) (s : ScopeBindings) (t : Table) (r : ℕ) (m : Run ℕ) → 256 ≤ s.count → Done t (binding r (scope_of b i s) m) (Err (refusal Bindings r)) t
+arm_full b i s t r m h = at_full (length (scope_of b i s)) t r m (rw scope_count h)
 
 -- a function's body and scope
 module _ {b i : List ℕ} {f n : ℕ} (k : Stands b i f FUNCTION) (e : n ≡ field b i f 1) where
@@ -94,7 +94,7 @@ module _ {b i : List ℕ} {f n : ℕ} (k : Stands b i f FUNCTION) (e : n ≡ fie
     pub fn_less : x < f
     fn_less = rw z (last_below k FN (function_mark k) (2 + 2 * n) (rw e (omega arith)) tt tt)
 
-    pub fn_done : {t t' : List ℕ} {c : ℕ} {q : Result Placed Refusal} {s : ScopeBindings} (y : Bool) → Roots f s → Done t c (lower y (expr_of b i x) (scope_of b i s)) q t' → Done t c (body y (fun_of b i f)) q t'
+    pub fn_done : {t t' : Table} {q : Result ℕ Refusal} {s : ScopeBindings} (y : Bool) → Roots f s → Done t (lower y (expr_of b i x) (scope_of b i s)) q t' → Done t (body y (fun_of b i f)) q t'
     fn_done y o d = rw (body_is b i f y k, ← e, ← z, ← scope_root b i o) d
 
 -- a block's end
@@ -110,26 +110,26 @@ module _ {b i : List ℕ} {r n : ℕ} (g : Marked b i r EB) (e : n ≡ field b i
     end_less = rw z (tail_below g.stands EB g.is (2 + n) (rw e (omega arith)) tt refl (λ o. some (z ∙ o)))
 
 -- what begins a statement
-module _ (b i : List ℕ) (s x : ℕ) (y : Bool) (sc : List Pat) {t t₁ : List ℕ} {c : ℕ} where
-  pub begin_does : {q : Result Placed Refusal} → (mark b i s ≡ SA → ⊥) → x ≡ field b i s 0 → Done t c (lower y (expr_of b i x) sc) q t₁ → Done t c (begin_run b i s y sc) q t₁
+module _ (b i : List ℕ) (s x : ℕ) (y : Bool) (sc : List Pat) {t t₁ : Table} where
+  pub begin_does : {q : Result ℕ Refusal} → (mark b i s ≡ SA → ⊥) → x ≡ field b i s 0 → Done t (lower y (expr_of b i x) sc) q t₁ → Done t (begin_run b i s y sc) q t₁
   unfolding begin_run
   begin_does m e d = rw (ne_eqb _ _ m, ← e) d
 
-  pub begin_assign : {a : Placed} (live : ℕ) {w : Result Placed Refusal} {t₂ : List ℕ} → mark b i s ≡ SA → x ≡ field b i s 1 → Done t c (lower y (expr_of b i x) sc) (Ok a) t₁ → length sc ≡ live → Done t₁ a.next (binding_at s live (calls.paired s a.root)) w t₂ → Done t c (begin_run b i s y sc) w t₂
+  pub begin_assign : {a : ℕ} (live : ℕ) {w : Result ℕ Refusal} {t₂ : Table} → mark b i s ≡ SA → x ≡ field b i s 1 → Done t (lower y (expr_of b i x) sc) (Ok a) t₁ → length sc ≡ live → Done t₁ (binding_at s live (calls.paired s a)) w t₂ → Done t (begin_run b i s y sc) w t₂
   unfolding begin_run
   begin_assign live m e d l g = rw (eq-eqb _ _ m, ← e, l) (then _ d g)
 
-  pub begin_halt : {w : Refusal} → mark b i s ≡ SA → x ≡ field b i s 1 → Done t c (lower y (expr_of b i x) sc) (Err w) t₁ → Done t c (begin_run b i s y sc) (Err w) t₁
+  pub begin_halt : {w : Refusal} → mark b i s ≡ SA → x ≡ field b i s 1 → Done t (lower y (expr_of b i x) sc) (Err w) t₁ → Done t (begin_run b i s y sc) (Err w) t₁
   unfolding begin_run
   begin_halt m e d = rw (eq-eqb _ _ m, ← e) (halt _ d)
 
 -- an element by its mark
-module _ (b i : List ℕ) (r m j : ℕ) (y : Bool) (sc : List Pat) {t t₁ : List ℕ} {c : ℕ} {q : Result Placed Refusal} where
-  pub element_plain : (x : ℕ) → (m ≡ EH → ⊥) → x ≡ field b i r j → Done t c (lower y (expr_of b i x) sc) q t₁ → Done t c (element_run y b i r m sc j) q t₁
+module _ (b i : List ℕ) (r m j : ℕ) (y : Bool) (sc : List Pat) {t t₁ : Table} {q : Result ℕ Refusal} where
+  pub element_plain : (x : ℕ) → (m ≡ EH → ⊥) → x ≡ field b i r j → Done t (lower y (expr_of b i x) sc) q t₁ → Done t (element_run y b i r m sc j) q t₁
   unfolding element_run
   element_plain x n e d = rw (ne_eqb m EH n, ← e) d
 
-  pub element_arm : (p x : ℕ) → m ≡ EH → 0 < j → p ≡ field b i r (j - 1) → x ≡ field b i r (j - 1 + 1) → Done t c (binding r sc (lower y (expr_of b i x) (pattern_of b i p ∷ sc))) q t₁ → Done t c (element_run y b i r m sc j) q t₁
+  pub element_arm : (p x : ℕ) → m ≡ EH → 0 < j → p ≡ field b i r (j - 1) → x ≡ field b i r (j - 1 + 1) → Done t (binding r sc (lower y (expr_of b i x) (pattern_of b i p ∷ sc))) q t₁ → Done t (element_run y b i r m sc j) q t₁
   unfolding element_run
   element_arm p x n h e f d =
       let z : j - 1 + 1 ≡ j = omega arith in
@@ -190,34 +190,34 @@ module _ {b i : List ℕ} {r m : ℕ} (g : Marked b i r m) (f : is_functional m 
   functional_below e = rw e names_fun.2
 
 -- a call's body
-module _ (y : Bool) (b i : List ℕ) (r m : ℕ) {t t₁ : List ℕ} {c : ℕ} where
-  pub body_plain : {q : Result Placed Refusal} → is_functional m ≡ false → Done t c (plain_run b i r m) q t₁ → Done t c (body_run y b i r m) q t₁
+module _ (y : Bool) (b i : List ℕ) (r m : ℕ) {t t₁ : Table} where
+  pub body_plain : {q : Result ℕ Refusal} → is_functional m ≡ false → Done t (plain_run b i r m) q t₁ → Done t (body_run y b i r m) q t₁
   unfolding body_run
   body_plain e d = rw e d
 
-  pub body_fold : {x : ℕ} {a : Placed} {w : Result Placed Refusal} {t₂ : List ℕ} → is_functional m ≡ true → x ≡ field b i r 1 → Done t c (body y (fun_of b i x)) (Ok a) t₁ → Done t₁ a.next (fold_run b i r m a.root) w t₂ → Done t c (body_run y b i r m) w t₂
+  pub body_fold : {x : ℕ} {a : ℕ} {w : Result ℕ Refusal} {t₂ : Table} → is_functional m ≡ true → x ≡ field b i r 1 → Done t (body y (fun_of b i x)) (Ok a) t₁ → Done t₁ (fold_run b i r m a) w t₂ → Done t (body_run y b i r m) w t₂
   unfolding body_run
   body_fold e z d g = rw (e, ← z) (then _ d g)
 
-  pub body_halt : {x : ℕ} {w : Refusal} → is_functional m ≡ true → x ≡ field b i r 1 → Done t c (body y (fun_of b i x)) (Err w) t₁ → Done t c (body_run y b i r m) (Err w) t₁
+  pub body_halt : {x : ℕ} {w : Refusal} → is_functional m ≡ true → x ≡ field b i r 1 → Done t (body y (fun_of b i x)) (Err w) t₁ → Done t (body_run y b i r m) (Err w) t₁
   unfolding body_run
   body_halt e z d = rw (e, ← z) (halt _ d)
 
 -- what is made of a row's node
-module _ (y : Bool) (b i : List ℕ) (r : ℕ) (sc : List Pat) (k : ℕ) {t t₁ : List ℕ} {c : ℕ} where
-  pub choose_then : {x : ℕ} {a : Placed} {w : Result Placed Refusal} {t₂ : List ℕ} → x ≡ field b i r 1 → Done t c (lower y (expr_of b i x) sc) (Ok a) t₁ → Done t₁ a.next (chosen r a.root k) w t₂ → Done t c (complete_run y b i r EH sc k) w t₂
+module _ (y : Bool) (b i : List ℕ) (r : ℕ) (sc : List Pat) (k : ℕ) {t t₁ : Table} where
+  pub choose_then : {x : ℕ} {a : ℕ} {w : Result ℕ Refusal} {t₂ : Table} → x ≡ field b i r 1 → Done t (lower y (expr_of b i x) sc) (Ok a) t₁ → Done t₁ (chosen r a k) w t₂ → Done t (complete_run y b i r EH sc k) w t₂
   unfolding complete_run
   choose_then e d g = rw (← e) (then _ d g)
 
-  pub choose_halt : {x : ℕ} {w : Refusal} → x ≡ field b i r 1 → Done t c (lower y (expr_of b i x) sc) (Err w) t₁ → Done t c (complete_run y b i r EH sc k) (Err w) t₁
+  pub choose_halt : {x : ℕ} {w : Refusal} → x ≡ field b i r 1 → Done t (lower y (expr_of b i x) sc) (Err w) t₁ → Done t (complete_run y b i r EH sc k) (Err w) t₁
   unfolding complete_run
   choose_halt e d = rw (← e) (halt _ d)
 
-  pub complete_call : {q : Result Placed Refusal} (m : ℕ) → (m ≡ EH → ⊥) → is_call m ≡ true → Done t c (call_run y b i r m k) q t₁ → Done t c (complete_run y b i r m sc k) q t₁
+  pub complete_call : {q : Result ℕ Refusal} (m : ℕ) → (m ≡ EH → ⊥) → is_call m ≡ true → Done t (call_run y b i r m k) q t₁ → Done t (complete_run y b i r m sc k) q t₁
   unfolding complete_run
   complete_call m n e d = rw (ne_eqb m EH n, e) d
 
-  pub complete_wrap : {q : Result Placed Refusal} (m : ℕ) → (m ≡ EH → ⊥) → is_call m ≡ false → Done t c (wrap_run b i r m k) q t₁ → Done t c (complete_run y b i r m sc k) q t₁
+  pub complete_wrap : {q : Result ℕ Refusal} (m : ℕ) → (m ≡ EH → ⊥) → is_call m ≡ false → Done t (wrap_run b i r m k) q t₁ → Done t (complete_run y b i r m sc k) q t₁
   unfolding complete_run
   complete_wrap m n e d = rw (ne_eqb m EH n, e) d
 
@@ -247,27 +247,27 @@ module _ {b i : List ℕ} {r m : ℕ} (k : Stands b i r EXPRESSION) (e : m ≡ m
   marked n z = record { stands = k; is = sym e ∙ z }
 
 -- a block's end
-module _ (y : Bool) (b i : List ℕ) (r n : ℕ) (sc : List Pat) {x : ℕ} {t t₁ : List ℕ} {c : ℕ} {q : Result Placed Refusal} (z : x ≡ field b i r (2 + n)) where
-  pub end_unit : x ≡ 65535 → Done t c (unit r) q t₁ → Done t c (statements y r (stmts_of b i r (2 + n) 0) sc) q t₁
+module _ (y : Bool) (b i : List ℕ) (r n : ℕ) (sc : List Pat) {x : ℕ} {t t₁ : Table} {q : Result ℕ Refusal} (z : x ≡ field b i r (2 + n)) where
+  pub end_unit : x ≡ 65535 → Done t (unit r) q t₁ → Done t (statements y r (stmts_of b i r (2 + n) 0) sc) q t₁
   end_unit e d = rw (end_none b i r (2 + n) y sc (sym z ∙ e)) d
 
-  pub end_expr : (x ≡ 65535 → ⊥) → Done t c (lower y (expr_of b i x) sc) q t₁ → Done t c (statements y r (stmts_of b i r (2 + n) 0) sc) q t₁
+  pub end_expr : (x ≡ 65535 → ⊥) → Done t (lower y (expr_of b i x) sc) q t₁ → Done t (statements y r (stmts_of b i r (2 + n) 0) sc) q t₁
   end_expr e d = rw (end_some b i r (2 + n) y sc (λ o. e (z ∙ o)), ← z) d
 
 -- a row
-module _ (y : Bool) (b i : List ℕ) (r m : ℕ) (sc : List Pat) {p : Span} {t t₁ : List ℕ} {c : ℕ} {xs : List ℕ} (v : Spanned b i r m p) where
-  pub row_then : {u : ℕ} {q : Result Placed Refusal} {t₂ : List ℕ} → Fills t c (elements_run y b i r m sc p.stride p.from p.count) (Ok u) xs t₁ → Done t₁ u (gather_run b i r m xs) q t₂ → Done t c (row_run y b i r m sc) q t₂
+module _ (y : Bool) (b i : List ℕ) (r m : ℕ) (sc : List Pat) {p : Span} {t t₁ : Table} {xs : List ℕ} (v : Spanned b i r m p) where
+  pub row_then : {u : Unit {0}} {q : Result ℕ Refusal} {t₂ : Table} → Fills t (elements_run y b i r m sc p.stride p.from p.count) (Ok u) xs t₁ → Done t₁ (gather_run b i r m xs) q t₂ → Done t (row_run y b i r m sc) q t₂
   unfolding row_run
   row_then d g = rw (← v.is) (all_then _ d g)
 
-  pub row_halt : {w : Refusal} → Fills t c (elements_run y b i r m sc p.stride p.from p.count) (Err w) xs t₁ → Done t c (row_run y b i r m sc) (Err w) t₁
+  pub row_halt : {w : Refusal} → Fills t (elements_run y b i r m sc p.stride p.from p.count) (Err w) xs t₁ → Done t (row_run y b i r m sc) (Err w) t₁
   unfolding row_run
   row_halt d = rw (← v.is) (all_halt _ d)
 
 -- a match of two arms
-pub arms_is : {b i : List ℕ} {r p x v z e : ℕ} (y : Bool) (sc : List Pat) {t t₁ : List ℕ} {c : ℕ} {q : Result Placed Refusal} → Marked b i r EM → p ≡ field b i r 2 → x ≡ field b i r 3 → v ≡ field b i r 4 → z ≡ field b i r 5 → e ≡ field b i r 1 → Done t c (bind (binding r sc (lower y (expr_of b i x) (pattern_of b i p ∷ sc))) (λ l. bind (binding r sc (lower y (expr_of b i z) (pattern_of b i v ∷ sc))) (λ g. bind (lower y (expr_of b i e) sc) (λ s. matched r s l g)))) q t₁ → Done t c (lower y (expr_of b i r) sc) q t₁
+pub arms_is : {b i : List ℕ} {r p x v z e : ℕ} (y : Bool) (sc : List Pat) {t t₁ : Table} {q : Result ℕ Refusal} → Marked b i r EM → p ≡ field b i r 2 → x ≡ field b i r 3 → v ≡ field b i r 4 → z ≡ field b i r 5 → e ≡ field b i r 1 → Done t (bind (binding r sc (lower y (expr_of b i x) (pattern_of b i p ∷ sc))) (λ l. bind (binding r sc (lower y (expr_of b i z) (pattern_of b i v ∷ sc))) (λ g. bind (lower y (expr_of b i e) sc) (λ s. matched r s l g)))) q t₁ → Done t (lower y (expr_of b i r) sc) q t₁
 arms_is {b} {i} {r} y sc k f g h j l d = rw (match_is b i r y sc k, ← f, ← g, ← h, ← j, ← l) d
 
 -- the scope after a statement that was begun
-pub enters_is : {b i : List ℕ} {s : ℕ} {p o : ScopeBindings} (y : Bool) {t t' : List ℕ} {c : ℕ} {a : Placed} → Enters b i s p o → Done t c (begin_run b i s y (scope_of b i p)) (Ok a) t' → scope_of b i o ≡ entered b i s (scope_of b i p)
+pub enters_is : {b i : List ℕ} {s : ℕ} {p o : ScopeBindings} (y : Bool) {t t' : Table} {a : ℕ} → Enters b i s p o → Done t (begin_run b i s y (scope_of b i p)) (Ok a) t' → scope_of b i o ≡ entered b i s (scope_of b i p)
 enters_is {b} {i} {s} {p} y n d = n.is (λ is. by_lt p.count 256 (λ h. h) (λ h. absurd (begun_fits b i s y (scope_of b i p) is d (rw scope_count h))))

@@ -5,7 +5,7 @@ use Rattle.std.specs.declared.result.Result.TheVariants.{Ok, Err}
 use Prim.Native.Nat.{ℕ, ◌-◌, ◌<◌}
 use mathlib.Core.Bool.{Bool}
 use mathlib.Core.List.{List, [], ◌∷◌}
-use mathlib.Core.Path.{◌≡◌, refl, sym, ap, subst, ◌∙◌}
+use mathlib.Core.Path.{◌≡◌, refl, sym, ap, ◌∙◌}
 use native.Mathlib.Omega.{arith}
 use lib.ListN.{length, length-replicate}
 use Rattle.std.specs.Prelude.{Result, Ok, Err}
@@ -15,9 +15,11 @@ use Rattle.book.specs.Stands.{Stands}
 use Rattle.book.specs.Tree.{ignore, expr_of}
 use Rattle.book.specs.declared.fault.Refusal.{Refusal}
 use Rattle.book.proofs.Established.{answer_valid}
+use Rattle.named.specs.Trace.{Run}
 use Rattle.named.specs.Cut.{refused, cut, room, image}
-use Rattle.named.specs.Draws.{Fate, Done}
-use Rattle.named.specs.declared.node.Placed.{Placed}
+use Rattle.named.specs.Stores.{Gives, Stops, Fate, Done}
+use Rattle.named.specs.Table.{Table, Fresh}
+use Rattle.std.specs.Borrow.{MutBor}
 use Rattle.named.proofs.Images.{zeros, clear_gives, clear_stops}
 use Rattle.scope_bindings.specs.Scope.{IGNORED, scope_of, ScopeStands, ignored, Roots}
 use Rattle.scope_bindings.specs.declared.ScopeBindings.{ScopeBindings}
@@ -32,19 +34,25 @@ root_scope_lem b i h = scope_root b i h ∙ rw (bound_ignored b i IGNORED refl)
 pub root_fits : {b i : List ℕ} {s : ScopeBindings} → Roots IGNORED s → ScopeStands b i s
 root_fits h = root_stands (ignored refl) h
 
-module _ (y : Bool) (b i : List ℕ) (r : ℕ) {s : ScopeBindings} {t t' : List ℕ} (h : Roots IGNORED s) (z : t ≡ zeros (length t)) where
-  from_clear : {q : Result Placed Refusal} → Done t 0 (lower y (expr_of b i r) (scope_of b i s)) q t' → Fate (zeros (length t)) 0 (lower y (expr_of b i r) (ignore ∷ [])) q t'
-  from_clear {q} d = subst (λ u. Fate u 0 (lower y (expr_of b i r) (ignore ∷ [])) q t') z (rw (root_scope_lem b i h) at d.fate)
+module _ (y : Bool) (b i : List ℕ) (r : ℕ) {s : ScopeBindings} {t : MutBor (List ℕ)} {d : Table} (d' : Table) (h : Roots IGNORED s) (z : t.now ≡ zeros (length t.now)) (f : Fresh t d) where
+  abbrev root : Run ℕ
+  root = lower y (expr_of b i r) (ignore ∷ [])
 
   -- a result: the nodes and then zeros
-  pub root_made : {a : Placed} → Done t 0 (lower y (expr_of b i r) (scope_of b i s)) (Ok a) t' → Lowered (cut (room (length t)) (trace_of y b i r)) (length t) (Ok a.next) t'
+  pub root_made : {a : ℕ} {u : List ℕ} → u ≡ d'.bytes.now → Done d (lower y (expr_of b i r) (scope_of b i s)) (Ok a) d' → Lowered (cut (room (length t.now)) (trace_of y b i r)) (length t.now) (Ok d'.next) u
   unfolding Fate trace_of
-  root_made d = let g = clear_gives (length t) (lower y (expr_of b i r) (ignore ∷ [])) (from_clear d) in record { answer = ap Ok g.1 ∙ sym (ap answer_of g.0); table = g.2 }
+  root_made {a} e p =
+      let q : Gives (zeros (length t.now)) 0 root a d'.next d'.bytes.now = rw (root_scope_lem b i h, f.bytes, f.next, z) at p.fate in
+      let g = clear_gives (length t.now) root q in
+      record { answer = ap Ok g.1 ∙ sym (ap answer_of g.0); table = e ∙ g.2 }
 
   -- a refusal: zeros throughout
-  pub root_refused : {w : Refusal} {t₂ : List ℕ} → Done t 0 (lower y (expr_of b i r) (scope_of b i s)) (Err w) t' → t₂ ≡ zeros (length t') → Lowered (cut (room (length t)) (trace_of y b i r)) (length t) (Err w) t₂
+  pub root_refused : {w : Refusal} {u v : List ℕ} → u ≡ d'.bytes.now → Done d (lower y (expr_of b i r) (scope_of b i s)) (Err w) d' → v ≡ zeros (length u) → Lowered (cut (room (length t.now)) (trace_of y b i r)) (length t.now) (Err w) v
   unfolding Fate trace_of
-  root_refused d o = let g = clear_stops (length t) (lower y (expr_of b i r) (ignore ∷ [])) (from_clear d) in record { answer = rw g.0 refl; table = o ∙ rw d.kept g.1 }
+  root_refused {w} e p o =
+      let q : Stops (zeros (length t.now)) 0 root w = rw (root_scope_lem b i h, f.bytes, f.next, z) at p.fate in
+      let g = clear_stops (length t.now) root q in
+      record { answer = rw g.0 refl; table = o ∙ rw (e, p.kept, f.bytes) g.1 }
 
 -- the last record of a book that READ accepts
 module _ (b : List ℕ) (n : ℕ) (e : read_of b ≡ Ok n) where

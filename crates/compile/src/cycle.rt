@@ -1,12 +1,12 @@
 // The cycle of lowering: an expression, its row of elements, its block, its call. Every step goes to an earlier record, or at the same
 // record one step further.
-ghost use Rattle.std.specs.Prelude.{◌≡◌, true, ◌∷◌, ◌+◌, ◌≤◌, T, length, take};
+ghost use Rattle.std.specs.Prelude.{◌≡◌, true, ◌∷◌, ◌+◌, T, length};
 ghost use Rattle.laws.specs.Table.{among};
 ghost use Rattle.book.specs.Format.{EXPRESSION, PATTERN, STATEMENT, FUNCTION, EV, EB, EM, EH};
 ghost use Rattle.book.specs.Index.{field};
 ghost use Rattle.book.specs.Stands.{Stands};
 ghost use Rattle.book.specs.Tree.{expr_of, pattern_of, fun_of};
-ghost use Rattle.named.specs.Draws.{Done, Fills};
+ghost use Rattle.named.specs.Stores.{Done, Fills};
 ghost use Rattle.recipes.specs.Calls.{paired};
 ghost use Rattle.scope_bindings.specs.Scope.{variable, scope_of, ScopeStands};
 ghost use Rattle.parts.specs.Parts.{Marked, Spanned, row_marks, is_call};
@@ -16,12 +16,12 @@ ghost use Rattle.compile.specs.Cycle.{element_run, elements_run, row_run, body_r
 use book::fault::{Fault, Refusal};
 use book::format::{CK, EB, EC, EH, EM, EV, EW, SA};
 use book::record::Book;
-use named::node::{Placed, UNIT, answer_of, pen_at, put};
+use named::node::{Nodes, UNIT};
 use parts::part::{
     choose_arm, close_all, constant, finish, fold_body, gather, match_arms, plain_body, witness,
     wrap,
 };
-use parts::view::{Span, arm_at, is_call, is_functional, span_of};
+use parts::view::{Arm, Span, arm_at, is_call, is_functional, span_of};
 use recipes::calls::paired;
 use scope_bindings::ScopeBindings;
 
@@ -32,41 +32,34 @@ pub fn expression(
     symbols: bool,
     r: u16,
     scope: &ScopeBindings,
-    nodes: &mut [u8],
-    next: u16,
-) -> Result<Placed, Refusal>
+    nodes: &mut Nodes,
+) -> Result<u16, Refusal>
     requires { (Stands book.now.bytes book.now.index r EXPRESSION) × (ScopeStands book.now.bytes book.now.index scope.now) }
-    ensures { Done nodes.old next (lower symbols (expr_of book.now.bytes book.now.index r) (scope_of book.now.bytes book.now.index scope.now)) result nodes.new }
+    ensures { Done nodes.old (lower symbols (expr_of book.now.bytes book.now.index r) (scope_of book.now.bytes book.now.index scope.now)) result nodes.new }
 {
     let m = book.mark_at(r);
     match m {
-        EC => constant(book, r, nodes, next),
-        EW => witness(book, r, nodes, next),
-        EV => variable(book, r, scope, nodes, next),
-        EB => block(book, symbols, r, scope, nodes, next),
-        EM => two_arms(book, symbols, r, scope, nodes, next),
+        EC => constant(book, r, nodes),
+        EW => witness(book, r, nodes),
+        EV => variable(book, r, scope, nodes),
+        EB => block(book, symbols, r, scope, nodes),
+        EM => two_arms(book, symbols, r, scope, nodes),
         CK => {
             let e = book.field_at(r, 1);
-            expression(book, symbols, e, scope, nodes, next)
+            expression(book, symbols, e, scope, nodes)
         }
-        _ => from_row(book, symbols, r, m, scope, nodes, next),
+        _ => from_row(book, symbols, r, m, scope, nodes),
     }
 }
 
 // A variable: the selector of its name.
-fn variable(
-    book: &Book,
-    r: u16,
-    scope: &ScopeBindings,
-    nodes: &mut [u8],
-    next: u16,
-) -> Result<Placed, Refusal>
+fn variable(book: &Book, r: u16, scope: &ScopeBindings, nodes: &mut Nodes) -> Result<u16, Refusal>
     requires marked { Marked book.now.bytes book.now.index r EV }
     requires scope_stands { ScopeStands book.now.bytes book.now.index scope.now }
-    ensures { Done nodes.old next (variable r (field book.now.bytes book.now.index r 1) (scope_of book.now.bytes book.now.index scope.now)) result nodes.new }
+    ensures { Done nodes.old (variable r (field book.now.bytes book.now.index r 1) (scope_of book.now.bytes book.now.index scope.now)) result nodes.new }
 {
     let name = book.field_at(r, 1);
-    scope.get(book, name, nodes, r, next)
+    scope.get(book, name, nodes, r)
 }
 
 // An expression that has a row of elements: the row, and then what its mark makes of it.
@@ -77,14 +70,13 @@ fn from_row(
     r: u16,
     m: u8,
     scope: &ScopeBindings,
-    nodes: &mut [u8],
-    next: u16,
-) -> Result<Placed, Refusal>
+    nodes: &mut Nodes,
+) -> Result<u16, Refusal>
     requires { (Marked book.now.bytes book.now.index r m) × ((ScopeStands book.now.bytes book.now.index scope.now) × (T (among row_marks m))) }
-    ensures { Done nodes.old next (lower symbols (expr_of book.now.bytes book.now.index r) (scope_of book.now.bytes book.now.index scope.now)) result nodes.new }
+    ensures { Done nodes.old (lower symbols (expr_of book.now.bytes book.now.index r) (scope_of book.now.bytes book.now.index scope.now)) result nodes.new }
 {
-    let a = row(book, symbols, r, m, scope, nodes, next)?;
-    complete(book, symbols, r, m, a.root, scope, nodes, a.next)
+    let a = row(book, symbols, r, m, scope, nodes)?;
+    complete(book, symbols, r, m, a, scope, nodes)
 }
 
 // The elements of a record, and what joins them.
@@ -95,17 +87,16 @@ fn row(
     r: u16,
     m: u8,
     scope: &ScopeBindings,
-    nodes: &mut [u8],
-    next: u16,
-) -> Result<Placed, Refusal>
+    nodes: &mut Nodes,
+) -> Result<u16, Refusal>
     requires { (Marked book.now.bytes book.now.index r m) × ((ScopeStands book.now.bytes book.now.index scope.now) × (T (among row_marks m))) }
-    ensures { Done nodes.old next (row_run symbols book.now.bytes book.now.index r m (scope_of book.now.bytes book.now.index scope.now)) result nodes.new }
+    ensures { Done nodes.old (row_run symbols book.now.bytes book.now.index r m (scope_of book.now.bytes book.now.index scope.now)) result nodes.new }
 {
     let span = span_of(book, r, m);
     let mut room = [0u16; 256];
     let roots = &mut room[..span.count];
-    let n = elements(book, symbols, r, m, span, scope, roots, nodes, next)?;
-    gather(book, r, m, roots, nodes, n)
+    elements(book, symbols, r, m, span, scope, roots, nodes)?;
+    gather(book, r, m, roots, nodes)
 }
 
 // The elements one after another; their nodes go into a row.
@@ -118,20 +109,16 @@ fn elements(
     span: Span,
     scope: &ScopeBindings,
     roots: &mut [u16],
-    nodes: &mut [u8],
-    next: u16,
-) -> Result<u16, Refusal>
+    nodes: &mut Nodes,
+) -> Result<(), Refusal>
     requires { (Marked book.now.bytes book.now.index r m) × ((ScopeStands book.now.bytes book.now.index scope.now) × ((T (among row_marks m)) × ((Spanned book.now.bytes book.now.index r m span) × (length roots.old ≡ span.count)))) }
-    ensures { Fills nodes.old next (elements_run symbols book.now.bytes book.now.index r m (scope_of book.now.bytes book.now.index scope.now) span.stride span.from span.count) result roots.new nodes.new }
+    ensures { Fills nodes.old (elements_run symbols book.now.bytes book.now.index r m (scope_of book.now.bytes book.now.index scope.now) span.stride span.from span.count) result roots.new nodes.new }
 {
-    let mut at = next;
     for (k, root) in roots.iter_mut().enumerate() {
         let j = span.from + span.stride * k;
-        let a = element(book, symbols, r, m, j, scope, nodes, at)?;
-        *root = a.root;
-        at = a.next;
+        *root = element(book, symbols, r, m, j, scope, nodes)?;
     }
-    Ok(at)
+    Ok(())
 }
 
 // The element at field j: an arm of an enum's match has its pattern before it.
@@ -143,18 +130,18 @@ fn element(
     m: u8,
     j: usize,
     scope: &ScopeBindings,
-    nodes: &mut [u8],
-    next: u16,
-) -> Result<Placed, Refusal>
+    nodes: &mut Nodes,
+) -> Result<u16, Refusal>
     requires { (Marked book.now.bytes book.now.index r m) × ((ScopeStands book.now.bytes book.now.index scope.now) × (InSpan book.now.bytes book.now.index r m j)) }
-    ensures { Done nodes.old next (element_run symbols book.now.bytes book.now.index r m (scope_of book.now.bytes book.now.index scope.now) j) result nodes.new }
+    ensures { Done nodes.old (element_run symbols book.now.bytes book.now.index r m (scope_of book.now.bytes book.now.index scope.now) j) result nodes.new }
 {
     if m == EH {
         let a = arm_at(book, r, j - 1);
-        return arm(book, symbols, r, a.pattern, a.body, scope, nodes, next);
+        arm(book, symbols, r, a, scope, nodes)
+    } else {
+        let e = book.field_at(r, j);
+        expression(book, symbols, e, scope, nodes)
     }
-    let e = book.field_at(r, j);
-    expression(book, symbols, e, scope, nodes, next)
 }
 
 // An arm of a match: its expression, where its pattern is bound.
@@ -163,14 +150,12 @@ fn arm(
     book: &Book,
     symbols: bool,
     r: u16,
-    pattern: u16,
-    e: u16,
+    a: Arm,
     scope: &ScopeBindings,
-    nodes: &mut [u8],
-    next: u16,
-) -> Result<Placed, Refusal>
-    requires { (Stands book.now.bytes book.now.index pattern PATTERN) × ((Stands book.now.bytes book.now.index e EXPRESSION) × (ScopeStands book.now.bytes book.now.index scope.now)) }
-    ensures { Done nodes.old next (binding r (scope_of book.now.bytes book.now.index scope.now) (lower symbols (expr_of book.now.bytes book.now.index e) (pattern_of book.now.bytes book.now.index pattern ∷ (scope_of book.now.bytes book.now.index scope.now)))) result nodes.new }
+    nodes: &mut Nodes,
+) -> Result<u16, Refusal>
+    requires { (Stands book.now.bytes book.now.index a.pattern PATTERN) × ((Stands book.now.bytes book.now.index a.body EXPRESSION) × (ScopeStands book.now.bytes book.now.index scope.now)) }
+    ensures { Done nodes.old (binding r (scope_of book.now.bytes book.now.index scope.now) (lower symbols (expr_of book.now.bytes book.now.index a.body) (pattern_of book.now.bytes book.now.index a.pattern ∷ (scope_of book.now.bytes book.now.index scope.now)))) result nodes.new }
 {
     if scope.count >= 256 {
         return Err(Refusal {
@@ -178,8 +163,8 @@ fn arm(
             place: r,
         });
     }
-    let inner = scope.insert(pattern);
-    expression(book, symbols, e, &inner, nodes, next)
+    let inner = scope.insert(a.pattern);
+    expression(book, symbols, a.body, &inner, nodes)
 }
 
 // What an expression makes of its row's node: an enum's match, a call, or a wrap.
@@ -191,19 +176,18 @@ fn complete(
     m: u8,
     inner: u16,
     scope: &ScopeBindings,
-    nodes: &mut [u8],
-    next: u16,
-) -> Result<Placed, Refusal>
+    nodes: &mut Nodes,
+) -> Result<u16, Refusal>
     requires { (Marked book.now.bytes book.now.index r m) × (ScopeStands book.now.bytes book.now.index scope.now) }
-    ensures { Done nodes.old next (complete_run symbols book.now.bytes book.now.index r m (scope_of book.now.bytes book.now.index scope.now) inner) result nodes.new }
+    ensures { Done nodes.old (complete_run symbols book.now.bytes book.now.index r m (scope_of book.now.bytes book.now.index scope.now) inner) result nodes.new }
 {
     if m == EH {
-        return choose(book, symbols, r, inner, scope, nodes, next);
+        choose(book, symbols, r, inner, scope, nodes)
+    } else if is_call(m) {
+        call(book, symbols, r, m, inner, nodes)
+    } else {
+        wrap(book, r, m, inner, nodes)
     }
-    if is_call(m) {
-        return call(book, symbols, r, m, inner, nodes, next);
-    }
-    wrap(book, r, m, inner, nodes, next)
 }
 
 // An enum's match, after its tree of cases: the scrutinee, beside the environment.
@@ -214,15 +198,14 @@ fn choose(
     r: u16,
     cases: u16,
     scope: &ScopeBindings,
-    nodes: &mut [u8],
-    next: u16,
-) -> Result<Placed, Refusal>
+    nodes: &mut Nodes,
+) -> Result<u16, Refusal>
     requires { (Marked book.now.bytes book.now.index r EH) × (ScopeStands book.now.bytes book.now.index scope.now) }
-    ensures { Done nodes.old next (complete_run symbols book.now.bytes book.now.index r EH (scope_of book.now.bytes book.now.index scope.now) cases) result nodes.new }
+    ensures { Done nodes.old (complete_run symbols book.now.bytes book.now.index r EH (scope_of book.now.bytes book.now.index scope.now) cases) result nodes.new }
 {
     let e = book.field_at(r, 1);
-    let s = expression(book, symbols, e, scope, nodes, next)?;
-    choose_arm(r, s.root, cases, nodes, s.next)
+    let s = expression(book, symbols, e, scope, nodes)?;
+    choose_arm(r, s, cases, nodes)
 }
 
 // A call, after its arguments: its body, and then what joins them.
@@ -233,53 +216,40 @@ fn call(
     r: u16,
     m: u8,
     arguments: u16,
-    nodes: &mut [u8],
-    next: u16,
-) -> Result<Placed, Refusal>
+    nodes: &mut Nodes,
+) -> Result<u16, Refusal>
     requires { (Marked book.now.bytes book.now.index r m) × (is_call m ≡ true) }
-    ensures { Done nodes.old next (call_run symbols book.now.bytes book.now.index r m arguments) result nodes.new }
+    ensures { Done nodes.old (call_run symbols book.now.bytes book.now.index r m arguments) result nodes.new }
 {
-    let b = body(book, symbols, r, m, nodes, next)?;
-    finish(book, symbols, r, m, arguments, b.root, nodes, b.next)
+    let b = body(book, symbols, r, m, nodes)?;
+    finish(book, symbols, r, m, arguments, b, nodes)
 }
 
 // The body of a call.
 #[cycle(lowering)]
-fn body(
-    book: &Book,
-    symbols: bool,
-    r: u16,
-    m: u8,
-    nodes: &mut [u8],
-    next: u16,
-) -> Result<Placed, Refusal>
+fn body(book: &Book, symbols: bool, r: u16, m: u8, nodes: &mut Nodes) -> Result<u16, Refusal>
     requires { (Marked book.now.bytes book.now.index r m) × (is_call m ≡ true) }
-    ensures { Done nodes.old next (body_run symbols book.now.bytes book.now.index r m) result nodes.new }
+    ensures { Done nodes.old (body_run symbols book.now.bytes book.now.index r m) result nodes.new }
 {
-    if !is_functional(m) {
-        return plain_body(book, r, m, nodes, next);
+    if is_functional(m) {
+        let f = book.field_at(r, 1);
+        let g = function(book, symbols, f, nodes)?;
+        fold_body(book, r, m, g, nodes)
+    } else {
+        plain_body(book, r, m, nodes)
     }
-    let f = book.field_at(r, 1);
-    let g = function(book, symbols, f, nodes, next)?;
-    fold_body(book, r, m, g.root, nodes, g.next)
 }
 
 // A function's body, lowered anew for each call, in a scope of its parameters only.
 #[cycle(lowering)]
-fn function(
-    book: &Book,
-    symbols: bool,
-    f: u16,
-    nodes: &mut [u8],
-    next: u16,
-) -> Result<Placed, Refusal>
+fn function(book: &Book, symbols: bool, f: u16, nodes: &mut Nodes) -> Result<u16, Refusal>
     requires { Stands book.now.bytes book.now.index f FUNCTION }
-    ensures { Done nodes.old next (body symbols (fun_of book.now.bytes book.now.index f)) result nodes.new }
+    ensures { Done nodes.old (body symbols (fun_of book.now.bytes book.now.index f)) result nodes.new }
 {
     let n = book.field_at(f, 1) as usize;
     let e = book.field_at(f, 2 + 2 * n);
     let scope = ScopeBindings::from_root(f);
-    expression(book, symbols, e, &scope, nodes, next)
+    expression(book, symbols, e, &scope, nodes)
 }
 
 // A match of two arms: both arms, the scrutinee, and then the case.
@@ -289,37 +259,18 @@ fn two_arms(
     symbols: bool,
     r: u16,
     scope: &ScopeBindings,
-    nodes: &mut [u8],
-    next: u16,
-) -> Result<Placed, Refusal>
+    nodes: &mut Nodes,
+) -> Result<u16, Refusal>
     requires { (Marked book.now.bytes book.now.index r EM) × (ScopeStands book.now.bytes book.now.index scope.now) }
-    ensures { Done nodes.old next (lower symbols (expr_of book.now.bytes book.now.index r) (scope_of book.now.bytes book.now.index scope.now)) result nodes.new }
+    ensures { Done nodes.old (lower symbols (expr_of book.now.bytes book.now.index r) (scope_of book.now.bytes book.now.index scope.now)) result nodes.new }
 {
     let left = arm_at(book, r, 2);
     let right = arm_at(book, r, 4);
     let e = book.field_at(r, 1);
-    let a = arm(
-        book,
-        symbols,
-        r,
-        left.pattern,
-        left.body,
-        scope,
-        nodes,
-        next,
-    )?;
-    let b = arm(
-        book,
-        symbols,
-        r,
-        right.pattern,
-        right.body,
-        scope,
-        nodes,
-        a.next,
-    )?;
-    let s = expression(book, symbols, e, scope, nodes, b.next)?;
-    match_arms(r, s.root, a.root, b.root, nodes, s.next)
+    let a = arm(book, symbols, r, left, scope, nodes)?;
+    let b = arm(book, symbols, r, right, scope, nodes)?;
+    let s = expression(book, symbols, e, scope, nodes)?;
+    match_arms(r, s, a, b, nodes)
 }
 
 // A block: its statements begun in order, its end, and the statements ended from the last on.
@@ -329,48 +280,42 @@ fn block(
     symbols: bool,
     r: u16,
     scope: &ScopeBindings,
-    nodes: &mut [u8],
-    next: u16,
-) -> Result<Placed, Refusal>
+    nodes: &mut Nodes,
+) -> Result<u16, Refusal>
     requires { (Marked book.now.bytes book.now.index r EB) × (ScopeStands book.now.bytes book.now.index scope.now) }
-    ensures { Done nodes.old next (lower symbols (expr_of book.now.bytes book.now.index r) (scope_of book.now.bytes book.now.index scope.now)) result nodes.new }
+    ensures { Done nodes.old (lower symbols (expr_of book.now.bytes book.now.index r) (scope_of book.now.bytes book.now.index scope.now)) result nodes.new }
 {
     let count = book.field_at(r, 1) as usize;
     let mut begun = [0u16; 256];
     let mut own = *scope;
-    let mut at = next;
     for k in 0..count {
         let s = book.field_at(r, 2 + k);
-        let a = begin(book, symbols, s, &own, nodes, at)?;
-        begun[k] = a.root;
-        at = a.next;
+        begun[k] = begin(book, symbols, s, &own, nodes)?;
         own = enter(book, s, own);
     }
-    let last = end(book, symbols, r, &own, nodes, at)?;
-    let values = &begun[..count];
-    close_all(book, r, values, last.root, nodes, last.next)
+    let last = end(book, symbols, r, &own, nodes)?;
+    close_all(book, r, &begun[..count], last, nodes)
 }
 
-// The end of a block: an expression, or unit where there is none. Its field has 65535 for none, as document 01 fixes it; it is read in
-// this one place, so that an Option would only be made to be taken apart.
+// The end of a block: an expression, or unit where there is none.
 #[cycle(lowering)]
 fn end(
     book: &Book,
     symbols: bool,
     r: u16,
     scope: &ScopeBindings,
-    nodes: &mut [u8],
-    next: u16,
-) -> Result<Placed, Refusal>
+    nodes: &mut Nodes,
+) -> Result<u16, Refusal>
     requires { (Marked book.now.bytes book.now.index r EB) × (ScopeStands book.now.bytes book.now.index scope.now) }
-    ensures { Done nodes.old next (statements symbols r (stmts_of book.now.bytes book.now.index r (2 + field book.now.bytes book.now.index r 1) 0) (scope_of book.now.bytes book.now.index scope.now)) result nodes.new }
+    ensures { Done nodes.old (statements symbols r (stmts_of book.now.bytes book.now.index r (2 + field book.now.bytes book.now.index r 1) 0) (scope_of book.now.bytes book.now.index scope.now)) result nodes.new }
 {
     let n = book.field_at(r, 1) as usize;
     let e = book.field_at(r, 2 + n);
     if e == 65535 {
-        return answer_of(r, put(nodes, r, pen_at(next), UNIT, 0, 0));
+        nodes.put(r, UNIT, 0, 0)
+    } else {
+        expression(book, symbols, e, scope, nodes)
     }
-    expression(book, symbols, e, scope, nodes, next)
 }
 
 // A statement, up to the rest of its block.
@@ -380,30 +325,24 @@ fn begin(
     symbols: bool,
     s: u16,
     scope: &ScopeBindings,
-    nodes: &mut [u8],
-    next: u16,
-) -> Result<Placed, Refusal>
+    nodes: &mut Nodes,
+) -> Result<u16, Refusal>
     requires { (Stands book.now.bytes book.now.index s STATEMENT) × (ScopeStands book.now.bytes book.now.index scope.now) }
-    ensures { Done nodes.old next (begin_run book.now.bytes book.now.index s symbols (scope_of book.now.bytes book.now.index scope.now)) result nodes.new }
+    ensures { Done nodes.old (begin_run book.now.bytes book.now.index s symbols (scope_of book.now.bytes book.now.index scope.now)) result nodes.new }
 {
-    if book.mark_at(s) != SA {
+    if book.mark_at(s) == SA {
+        let e = book.field_at(s, 1);
+        let value = expression(book, symbols, e, scope, nodes)?;
+        bind_value(s, value, scope.count, nodes)
+    } else {
         let e = book.field_at(s, 0);
-        return expression(book, symbols, e, scope, nodes, next);
+        expression(book, symbols, e, scope, nodes)
     }
-    let e = book.field_at(s, 1);
-    let a = expression(book, symbols, e, scope, nodes, next)?;
-    bind_value(s, a.root, scope.count, nodes, a.next)
 }
 
 // The value of an assignment beside the environment, where so many bindings are live.
-fn bind_value(
-    s: u16,
-    value: u16,
-    live: usize,
-    nodes: &mut [u8],
-    next: u16,
-) -> Result<Placed, Refusal>
-    ensures { Done nodes.old next (binding_at s live (paired s value)) result nodes.new }
+fn bind_value(s: u16, value: u16, live: usize, nodes: &mut Nodes) -> Result<u16, Refusal>
+    ensures { Done nodes.old (binding_at s live (paired s value)) result nodes.new }
 {
     if live >= 256 {
         return Err(Refusal {
@@ -411,7 +350,7 @@ fn bind_value(
             place: s,
         });
     }
-    answer_of(s, paired(nodes, s, pen_at(next), value))
+    paired(nodes, s, value)
 }
 
 // The scope of the rest of a block after statement s.

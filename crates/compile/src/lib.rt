@@ -11,6 +11,7 @@ use crate::cycle::expression;
 use book::fault::Refusal;
 use book::read::index_book;
 use book::record::Book;
+use named::node::Nodes;
 use named::table::clear;
 use scope_bindings::{IGNORED, ScopeBindings};
 
@@ -35,11 +36,12 @@ fn lower_root(book: &Book, symbols: bool, r: u16, nodes: &mut [u8]) -> Result<u1
     ensures { Lowered (cut (room (length nodes.old)) (trace_of symbols book.now.bytes book.now.index r)) (length nodes.old) result nodes.new }
 {
     let scope = ScopeBindings::from_root(IGNORED);
-    match expression(book, symbols, r, &scope, nodes, 0) {
-        Ok(root) => Ok(root.next),
-        Err(w) => {
+    let mut table = Nodes::new(nodes);
+    match expression(book, symbols, r, &scope, &mut table) {
+        Ok(_) => Ok(table.count()),
+        Err(refusal) => {
             clear(nodes);
-            Err(w)
+            Err(refusal)
         }
     }
 }

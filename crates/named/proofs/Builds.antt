@@ -2,7 +2,7 @@
 -- Assumes nothing.
 use Prim.Native.Nat.{ℕ, zero, suc, ◌-◌, ◌≤◌, ◌<◌}
 use mathlib.Core.Bool.{Bool, true, false}
-use mathlib.Core.Path.{◌≡◌}
+use mathlib.Core.Path.{◌≡◌, refl}
 use mathlib.Core.List.{List, [], ◌∷◌, map}
 use native.Mathlib.Omega.{arith}
 use lib.ListN.{length, get_or, take, drop}
@@ -13,50 +13,57 @@ use Rattle.array.specs.Path.{path}
 use Rattle.array.proofs.Paths.{path_one, path_left, path_right}
 use Rattle.array.proofs.Rows.{row_none, row_one, row_step}
 use Rattle.named.specs.Trace.{pure, bind, emit}
-use Rattle.named.specs.Combinators.{iden, unit, injl, injr, bit, kinds, wraps, select, joined, joins}
-use Rattle.named.specs.Draws.{Draws}
-use Rattle.named.specs.declared.node.Pen.{Pen}
-use Rattle.named.proofs.Pens.{draw_then, draw_pure, draw_there}
+use Rattle.named.specs.Combinators.{unit, injl, injr, bit, kinds, wraps, joined, joins}
+use Rattle.std.specs.Prelude.{Result, Ok, Err}
+use Rattle.book.specs.declared.fault.Refusal.{Refusal}
+use Rattle.named.specs.Stores.{Done}
+use Rattle.named.specs.Table.{Table}
+use Rattle.named.proofs.Storing.{then, halt, done_pure}
 
--- by the bit
-pub bit_true : {r : ℕ} {v : Bool} {t t' : List ℕ} {p q : Pen} → v ≡ true → Draws r t p (bind (unit r) (λ u. injr r u)) q t' → Draws r t p (bit r v) q t'
+-- a bit is unit, and then the side that it says
+pub bit_is : (r : ℕ) {v : Bool} → v ≡ true → bit r v ≡ bind (unit r) (λ u. injr r u)
 unfolding bit
-bit_true e d = rw e d
+bit_is r e = rw e refl
 
-pub bit_false : {r : ℕ} {v : Bool} {t t' : List ℕ} {p q : Pen} → v ≡ false → Draws r t p (bind (unit r) (λ u. injl r u)) q t' → Draws r t p (bit r v) q t'
+pub bit_not : (r : ℕ) {v : Bool} → v ≡ false → bit r v ≡ bind (unit r) (λ u. injl r u)
 unfolding bit
-bit_false e d = rw e d
+bit_not r e = rw e refl
 
--- the steps of a selector from the last on, around the pen's node
-module _ {r : ℕ} {t : List ℕ} {p : Pen} (ks : List ℕ) where
-  pub steps_none : (k : ℕ) → k ≡ length ks → Draws r t p (wraps r (drop k ks) p.root) p t
-  unfolding wraps
-  steps_none k e = rw (e, drop-length ks) (draw_pure r t p)
+pub bit_halts : (r : ℕ) (v : Bool) {d d₁ : Table} {w : Refusal} → Done d (unit r) (Err w) d₁ → Done d (bit r v) (Err w) d₁
+bit_halts r true p = rw (bit_is r refl) (halt _ p)
+bit_halts r false p = rw (bit_not r refl) (halt _ p)
 
-  pub steps_next : {t₁ t₂ : List ℕ} {q s : Pen} (j k : ℕ) → k ≤ length ks → 0 < k → j ≡ k - 1 → Draws r t p (wraps r (drop k ks) p.root) q t₁ → Draws r t₁ q (emit r (get_or ks j 0) q.root 0) s t₂ → Draws r t p (wraps r (drop j ks) p.root) s t₂
+-- the steps of a selector from the last on, around a node
+module _ (r a : ℕ) {d : Table} (ks : List ℕ) where
+  pub steps_none : (k : ℕ) → k ≡ length ks → Done d (wraps r (drop k ks) a) (Ok a) d
   unfolding wraps
-  steps_next j k h o e d g =
+  steps_none k e = rw (e, drop-length ks) (done_pure d a)
+
+  pub steps_next : {d₁ d₂ : Table} {b : ℕ} {s : Result ℕ Refusal} (j k : ℕ) → k ≤ length ks → 0 < k → j ≡ k - 1 → Done d (wraps r (drop k ks) a) (Ok b) d₁ → Done d₁ (emit r (get_or ks j 0) b 0) s d₂ → Done d (wraps r (drop j ks) a) s d₂
+  unfolding wraps
+  steps_next j k h o e p q =
       let z : k ≡ suc j = omega arith in
-      rw (drop-cons ks j 0 (omega arith)) (draw_then (λ b. emit r (get_or ks j 0) b 0) (rw z at d) g)
+      rw (drop-cons ks j 0 (omega arith)) (then (λ b. emit r (get_or ks j 0) b 0) (rw z at p) q)
 
-  pub steps_all : {t₁ t₂ : List ℕ} {q s : Pen} (k : ℕ) → k ≤ 0 → Draws r t p (iden r) q t₁ → Draws r t₁ q (wraps r (drop k ks) q.root) s t₂ → Draws r t p (select r ks) s t₂
-  unfolding select
-  steps_all zero h d g = draw_then (λ a. wraps r ks a) d g
-  steps_all (suc k) h d g = absurd (omega arith)
-
--- the pen's node along the path to element k of n
-module _ (r l g n k : ℕ) {t : List ℕ} {p : Pen} where
-  pub along_one : n < 2 → k < n → Draws r t p (wraps r (kinds l g (path n k)) p.root) p t
+  -- where one is refused, so are all
+  pub steps_stop : {d₁ : Table} {w : Refusal} (k : ℕ) → k ≤ length ks → Done d (wraps r (drop k ks) a) (Err w) d₁ → Done d (wraps r ks a) (Err w) d₁
   unfolding wraps
-  along_one h o = let e : n ≡ 1 = omega arith in rw (e, path_one k) (draw_pure r t p)
+  steps_stop zero h p = p
+  steps_stop (suc k) h p = steps_stop k (omega arith) (rw (drop-cons ks k 0 (omega arith)) (halt (λ b. emit r (get_or ks k 0) b 0) p))
 
-  pub along_left : {t₁ t₂ : List ℕ} {q s : Pen} (c : ℕ) → c ≡ split_of n → 2 ≤ n → k < c → Draws r t p (wraps r (kinds l g (path c k)) p.root) q t₁ → Draws r t₁ q (emit r l q.root 0) s t₂ → Draws r t p (wraps r (kinds l g (path n k)) p.root) s t₂
+-- a node along the path to element k of n
+module _ (r l g n k a : ℕ) where
+  pub along_one : (d : Table) → n < 2 → k < n → Done d (wraps r (kinds l g (path n k)) a) (Ok a) d
   unfolding wraps
-  along_left c e two h d f = rw (path_left n k two (rw e at h), ← e) (draw_then (λ b. emit r l b 0) d f)
+  along_one d h o = let e : n ≡ 1 = omega arith in rw (e, path_one k) (done_pure d a)
 
-  pub along_right : {t₁ t₂ : List ℕ} {q s : Pen} (c : ℕ) → c ≡ split_of n → 2 ≤ n → c ≤ k → Draws r t p (wraps r (kinds l g (path (n - c) (k - c))) p.root) q t₁ → Draws r t₁ q (emit r g q.root 0) s t₂ → Draws r t p (wraps r (kinds l g (path n k)) p.root) s t₂
+  pub along_left : {c : ℕ} → c ≡ split_of n → 2 ≤ n → k < c → wraps r (kinds l g (path n k)) a ≡ bind (wraps r (kinds l g (path c k)) a) (λ b. emit r l b 0)
   unfolding wraps
-  along_right c e two h d f = rw (path_right n k two (rw e at h), ← e) (draw_then (λ b. emit r g b 0) d f)
+  along_left e two h = rw (path_left n k two (rw e at h), ← e) refl
+
+  pub along_right : {c : ℕ} → c ≡ split_of n → 2 ≤ n → c ≤ k → wraps r (kinds l g (path n k)) a ≡ bind (wraps r (kinds l g (path (n - c) (k - c))) a) (λ b. emit r g b 0)
+  unfolding wraps
+  along_right e two h = rw (path_right n k two (rw e at h), ← e) refl
 
 -- rows of nodes: none, one, and two parts
 module _ (r kind : ℕ) where
@@ -74,16 +81,22 @@ module _ (r kind : ℕ) where
       rw (row_step (unit r) (joined (emit r kind)) (map pure xs) (rw map_length h), map_length, map_take, map_drop)
 
 -- a row of nodes by its length
-module _ (r kind : ℕ) {t : List ℕ} {p : Pen} where
-  pub join_none : {t₁ : List ℕ} {q : Pen} (xs : List ℕ) → length xs < 1 → Draws r t p (unit r) q t₁ → Draws r t p (joins r kind xs) q t₁
-  join_none [] h d = rw (joins_none r kind) d
-  join_none (x ∷ xs) h d = absurd (omega arith)
+module _ (r kind : ℕ) (xs : List ℕ) where
+  pub join_none : length xs < 1 → joins r kind xs ≡ unit r
+  join_none h = none xs h
+    where
+      none : (ys : List ℕ) → length ys < 1 → joins r kind ys ≡ unit r
+      none [] l = joins_none r kind
+      none (y ∷ ys) l = absurd (omega arith)
 
-  pub join_one : (xs : List ℕ) → 1 ≤ length xs → length xs < 2 → Draws r t p (joins r kind xs) (record { next = p.next; root = get_or xs 0 0; full = p.full }) t
-  join_one [] h l = absurd (omega arith)
-  join_one (x ∷ []) h l = rw (joins_one r kind x) (draw_there r t p x)
-  join_one (x ∷ y ∷ xs) h l = absurd (omega arith)
+  pub join_one : 1 ≤ length xs → length xs < 2 → joins r kind xs ≡ pure (get_or xs 0 0)
+  join_one h l = one xs h l
+    where
+      one : (ys : List ℕ) → 1 ≤ length ys → length ys < 2 → joins r kind ys ≡ pure (get_or ys 0 0)
+      one [] p q = absurd (omega arith)
+      one (y ∷ []) p q = joins_one r kind y
+      one (y ∷ z ∷ ys) p q = absurd (omega arith)
 
   -- two or more: the parts that it splits into, and then the node that joins them
-  pub join_more : {t₁ t₂ t₃ : List ℕ} {q s v : Pen} {c : ℕ} {ls gs : List ℕ} (xs : List ℕ) → 2 ≤ length xs → c ≡ split_of (length xs) → ls ≡ take c xs → gs ≡ drop c xs → Draws r t p (joins r kind ls) q t₁ → Draws r t₁ q (joins r kind gs) s t₂ → Draws r t₂ s (emit r kind q.root s.root) v t₃ → Draws r t p (joins r kind xs) v t₃
-  join_more xs two e l g d f o = rw (joins_step r kind xs two, ← e, ← l, ← g) (draw_then _ d (draw_then _ f o))
+  pub join_more : {c : ℕ} {ls gs : List ℕ} → 2 ≤ length xs → c ≡ split_of (length xs) → ls ≡ take c xs → gs ≡ drop c xs → joins r kind xs ≡ joined (emit r kind) (joins r kind ls) (joins r kind gs)
+  join_more two e l g = rw (l, g, e) (joins_step r kind xs two)

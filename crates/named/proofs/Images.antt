@@ -10,7 +10,7 @@ use lib.Seq.{sets-eq}
 use Rattle.book.specs.declared.fault.Refusal.{Refusal}
 use Rattle.named.specs.Trace.{Node, Trace, done, stopped, store, Run}
 use Rattle.named.specs.Cut.{made, refused, cut, room, encode, image}
-use Rattle.named.specs.Draws.{stored, comes, Gives, Stops}
+use Rattle.named.specs.Stores.{stored, comes, Gives, Stops}
 use Rattle.named.proofs.Runs.{after_made}
 
 -- a table of zeros

@@ -1,5 +1,5 @@
 pub mod Runs
-pub mod Pens
+pub mod Storing
 pub mod Builds
 pub mod Images
 pub mod Sizes

@@ -9,7 +9,7 @@ use lib.ListN.{length}
 use Rattle.book.specs.declared.fault.Refusal.{Refusal}
 use Rattle.named.specs.Trace.{Node, Trace, done, stopped, store, Run, pure, graft, bind}
 use Rattle.named.specs.Cut.{Out, made, refused, after, cut, encode}
-use Rattle.named.specs.Draws.{stored}
+use Rattle.named.specs.Stores.{stored}
 
 -- runs in a row are grouped either way
 graft_graft : {A B C : Type 0} (τ : Trace A) (k : A → Run B) (l : B → Run C) (c : ℕ) → graft (graft τ k c) l c ≡ graft τ (λ a. bind (k a) l) c

@@ -12,8 +12,9 @@ use Rattle.book.specs.declared.fault.Fault.TheVariants.{Room}
 use Rattle.named.specs.Trace.{Trace, done, stopped, store, Run, pure, graft, bind, emit}
 use Rattle.named.specs.Combinators.{bit, wraps, select, applied}
 use Rattle.named.specs.Cut.{refused, after, cut, size, room}
-use Rattle.named.specs.Draws.{Stops, Draws}
-use Rattle.named.specs.declared.node.Pen.{Pen}
+use Rattle.std.specs.Prelude.{Err}
+use Rattle.named.specs.Stores.{Stops, Fate, Done}
+use Rattle.named.specs.Table.{Table}
 
 -- a trace that ends with a result, each node of it for record r
 abbrev Whole : {A : Type 0} → ℕ → Trace A → Type 0
@@ -87,11 +88,6 @@ cut_short (store x τ) (suc l) w h = rw (cut_short τ l w.1 (omega arith))
 pub stops_short : {A : Type 0} {r n : ℕ} {m : Run A} (t : List ℕ) (c : ℕ) → Stores r n m → room (length t) - c < n → Stops t c m (refusal Room r)
 stops_short {m = m} t c d h = record { is = cut_short (m c) (room (length t) - c) (d.whole c) (omega (arith, d.count c)) }
 
--- a full pen tells it
-pub draw_short : {r n : ℕ} {m : Run ℕ} (t : List ℕ) (p : Pen) → Stores r n m → room (length t) - p.next < n → Draws r t p m (record { next = p.next; root = p.root; full = true }) t
-draw_short t p d h = record {
-  kept = refl;
-  shut = λ f. refl;
-  drawn = λ f g. let z : ◌≡◌ {A = ℕ} 0 1 = cc in absurd (omega arith);
-  full = λ f g. stops_short t p.next d h;
-}
+pub done_short : {r n : ℕ} {m : Run ℕ} (d : Table) → Stores r n m → room (length d.bytes.now) - d.next < n → Done d m (Err (refusal Room r)) d
+unfolding Fate
+done_short d s h = record { lent = refl; kept = refl; fate = stops_short d.bytes.now d.next s h }

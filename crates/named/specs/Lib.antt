@@ -2,4 +2,5 @@ pub mod Trace
 pub mod Combinators
 pub mod Cut
 pub mod Entry
-pub mod Draws
+pub mod Table
+pub mod Stores

@@ -1,7 +1,5 @@
 // Nodes: five bytes each in a lent table, stored one after another.
-ghost use Rattle.named.specs.Trace.{emit};
-ghost use Rattle.named.specs.Draws.{Draws, Opens, Closes};
-
+use crate::entry::write_entry;
 use book::fault::{Fault, Refusal};
 
 // The kinds of nodes: document 01, Stored order.
@@ -35,69 +33,56 @@ pub const SCRIBE: u8 = 14;
 
 pub const JET: u8 = 15;
 
-// Where the next node goes: its number, the last node that was stored, and whether a node did not fit. A full pen stores nothing, so
-// that a recipe need not ask after each of its nodes.
-#[derive(Clone, Copy)]
-pub struct Pen {
-    pub next: u16,
-    pub root: u16,
-    pub full: bool,
+// A lent table, and how many nodes stand in it. It has no model: from a model a caller would not learn that what its functions store,
+// they store into the bytes that were lent.
+#[derive(Drop)]
+pub struct Nodes<'a> {
+    bytes: &'a mut [u8],
+    next: u16,
 }
 
-// What was lowered: the node that stands for it, and the next node's number.
-#[derive(Clone, Copy)]
-pub struct Placed {
-    pub root: u16,
-    pub next: u16,
-}
+impl<'a> Nodes<'a> {
+    ghost use Rattle.std.specs.Prelude.{◌≡◌, ◌-◌, length};
+    ghost use Rattle.named.specs.Cut.{room};
+    ghost use Rattle.named.specs.Stores.{Done};
+    ghost use Rattle.named.specs.Table.{Fresh};
+    ghost use Rattle.named.specs.Trace.{emit};
 
-// A pen for the next node.
-pub fn pen_at(next: u16) -> Pen
-    ensures { Opens next result }
-{
-    Pen {
-        next,
-        root: 0,
-        full: false,
+    // A table that has no nodes yet.
+    pub fn new(bytes: &'a mut [u8]) -> Nodes<'a>
+        ensures { Fresh bytes.entry result }
+    {
+        Nodes { bytes, next: 0 }
     }
-}
 
-// What a pen has come to, for a record.
-pub fn answer_of(place: u16, pen: Pen) -> Result<Placed, Refusal>
-    ensures { Closes place pen result }
-{
-    if pen.full {
-        Err(Refusal {
-            fault: Fault::Room,
-            place,
-        })
-    } else {
-        Ok(Placed {
-            root: pen.root,
-            next: pen.next,
-        })
+    // How many nodes there are.
+    pub fn count(&self) -> u16
+        ensures { result ≡ self.now.next }
+    {
+        self.next
     }
-}
 
-// Stores a node for a record, if there is room for it.
-pub fn put(nodes: &mut [u8], place: u16, pen: Pen, kind: u8, left: u16, right: u16) -> Pen
-    ensures { Draws place nodes.old pen (emit place kind left right) result nodes.new }
-{
-    if pen.full {
-        return pen;
+    // How many nodes more there is room for: document 01, Stored order.
+    pub fn room(&self) -> usize
+        ensures { result ≡ room (length self.now.bytes.now) - self.now.next }
+    {
+        (self.bytes.len() / 5)
+            .min(65535)
+            .saturating_sub(self.next as usize)
     }
-    let at = 5 * (pen.next as usize);
-    if pen.next == 65535 || nodes.len() < at + 5 {
-        return Pen { full: true, ..pen };
-    }
-    nodes[at] = kind;
-    nodes[at + 1] = (left % 256) as u8;
-    nodes[at + 2] = (left / 256) as u8;
-    nodes[at + 3] = (right % 256) as u8;
-    nodes[at + 4] = (right / 256) as u8;
-    Pen {
-        next: pen.next + 1,
-        root: pen.next,
-        full: false,
+
+    // Stores a node for a record, if there is room for it, and answers its number.
+    pub fn put(&mut self, place: u16, kind: u8, left: u16, right: u16) -> Result<u16, Refusal>
+        ensures { Done self.old (emit place kind left right) result self.new }
+    {
+        let node = self.next;
+        if !write_entry(self.bytes, node, kind, left, right) {
+            return Err(Refusal {
+                fault: Fault::Room,
+                place,
+            });
+        }
+        self.next += 1;
+        Ok(node)
     }
 }

@@ -14,10 +14,9 @@ use Rattle.book.specs.Index.{field}
 use Rattle.book.specs.Tree.{group}
 use Rattle.book.specs.declared.fault.Refusal.{Refusal}
 use Rattle.named.specs.Trace.{Run}
-use Rattle.named.specs.Draws.{Done, Draws, Opens, Closes}
-use Rattle.named.specs.declared.node.Pen.{Pen}
-use Rattle.named.specs.declared.node.Placed.{Placed}
-use Rattle.named.proofs.Pens.{then, halt, closes, done_pure}
+use Rattle.named.specs.Stores.{Done}
+use Rattle.named.specs.Table.{Table}
+use Rattle.named.proofs.Storing.{then, halt, done_pure}
 use Rattle.parts.specs.Parts.{Marked, Widths, widths_row, close_run, close_all}
 use Rattle.parts.proofs.Numbers.{hash_width}
 
@@ -51,22 +50,22 @@ module _ (b i : List ℕ) (r : ℕ) where
   pub widths_row_lem : {m : ℕ} (ws : List ℕ) → length ws ≡ m → Widths b i r (length ws) ws → ws ≡ widths_row b i r 3 m
   widths_row_lem ws e w = row_from 3 ws w.is ∙ ap (widths_row b i r 3) e
 
--- a pen's answer for what is read of the book: x is what was read, y what the book has
-pub closes_at : {A : Type 0} (m : A → Run ℕ) {x y : A} {r c : ℕ} {t t' : List ℕ} {p q : Pen} {s : Result Placed Refusal} → x ≡ y → Opens c p → Draws r t p (m x) q t' → Closes r q s → Done t c (m y) s t'
-closes_at m e o d h = rw (← e) (closes o d h)
+-- a run of what is read of the book: x is what was read, y what the book has
+pub done_at : {A : Type 0} (m : A → Run ℕ) {x y : A} {d d' : Table} {s : Result ℕ Refusal} → x ≡ y → Done d (m x) s d' → Done d (m y) s d'
+done_at m e p = rw (← e) p
 
 -- the first k statements of a block, after which e stands
-module _ (b i : List ℕ) (r : ℕ) (xs : List ℕ) (e : ℕ) {t : List ℕ} {c : ℕ} where
-  pub close_none : (k : ℕ) → k ≤ 0 → Done t c (close_all b i r xs k e) (Ok (record { root = e; next = c })) t
+module _ (b i : List ℕ) (r : ℕ) (xs : List ℕ) (e : ℕ) {d : Table} where
+  pub close_none : (k : ℕ) → k ≤ 0 → Done d (close_all b i r xs k e) (Ok e) d
   unfolding close_all
-  close_none zero h = done_pure t c e
+  close_none zero h = done_pure d e
   close_none (suc k) h = absurd (omega arith)
 
-  module _ (k j s : ℕ) (z : k ≡ suc j) (w : s ≡ field b i r (2 + j)) {t₁ : List ℕ} where
-    pub close_next : {a : Placed} → Done t c (close_run b i s (get_or xs j 0) e) (Ok a) t₁ → (v : Result Placed Refusal) (t₂ : List ℕ) → Done t₁ a.next (close_all b i r xs j a.root) v t₂ → Done t c (close_all b i r xs k e) v t₂
+  module _ (k j s : ℕ) (z : k ≡ suc j) (w : s ≡ field b i r (2 + j)) {d₁ : Table} where
+    pub close_next : {a : ℕ} {v : Result ℕ Refusal} {d₂ : Table} → Done d (close_run b i s (get_or xs j 0) e) (Ok a) d₁ → Done d₁ (close_all b i r xs j a) v d₂ → Done d (close_all b i r xs k e) v d₂
     unfolding close_all
-    close_next d v t₂ f = rw (z, ← w) (then (close_all b i r xs j) d f)
+    close_next p q = rw (z, ← w) (then (close_all b i r xs j) p q)
 
-    pub close_halt : {o : Refusal} → Done t c (close_run b i s (get_or xs j 0) e) (Err o) t₁ → Done t c (close_all b i r xs k e) (Err o) t₁
+    pub close_halt : {o : Refusal} → Done d (close_run b i s (get_or xs j 0) e) (Err o) d₁ → Done d (close_all b i r xs k e) (Err o) d₁
     unfolding close_all
-    close_halt d = rw (z, ← w) (halt (close_all b i r xs j) d)
+    close_halt p = rw (z, ← w) (halt (close_all b i r xs j) p)

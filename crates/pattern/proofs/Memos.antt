@@ -10,12 +10,12 @@ use borrow.Author.Tests.{eqb-true, eqb-false}
 use lib.Dec.{eqb}
 use lib.ListN.{length, get_or, set, replicate, length-set, length-replicate}
 use lib.Seq.{get_or-set_other}
-use Rattle.std.specs.Prelude.{None}
+use Rattle.std.specs.Prelude.{None, Ok}
 use Rattle.array.specs.Path.{Side}
 use Rattle.book.specs.Stands.{Stands}
 use Rattle.book.specs.Tree.{pattern_of}
 use Rattle.book.proofs.Standing.{stands_few}
-use Rattle.named.specs.declared.node.Pen.{Pen}
+use Rattle.named.specs.Table.{Table}
 use Rattle.pattern.specs.Find.{find}
 use Rattle.pattern.specs.Seeks.{Sought, Memo, Seeks, Searches}
 use Rattle.pattern.proofs.Selectors.{seeks_missing}
@@ -51,13 +51,13 @@ pub memo_fits : {b i : List ℕ} {p kd x : ℕ} {ms : List ℕ} → Stands b i p
 memo_fits s m = omega (arith, stands_few s, m.size)
 
 -- answers of a search: the name is missing, or as a part of the search says
-module _ {b i : List ℕ} {x : ℕ} {w : Option (List Side)} {r : ℕ} {t : List ℕ} {pen : Pen} {ms : List ℕ} (m : Memo b i x ms) where
-  pub searched_none : w ≡ none → Searches b i x w r t pen None t ms
+module _ {b i : List ℕ} {x : ℕ} {w : Option (List Side)} {r : ℕ} {d : Table} {ms : List ℕ} (m : Memo b i x ms) where
+  pub searched_none : w ≡ none → Searches b i x w r d (Ok None) d ms
   searched_none e = record { memo = m; sought = seeks_missing e }
 
-  pub searched_on : {t' : List ℕ} {s : Sought} → Seeks r t pen w s t' → Searches b i x w r t pen s t' ms
+  pub searched_on : {d' : Table} {s : Sought} → Seeks r d w s d' → Searches b i x w r d s d' ms
   searched_on h = record { memo = m; sought = h }
 
 -- a record that was searched before is not entered
-pub known_missing : {b i : List ℕ} {x : ℕ} {ms : List ℕ} {r : ℕ} {t : List ℕ} {pen : Pen} (p : ℕ) → Memo b i x ms → get_or ms p 0 ≡ 1 → Searches b i x (find x (pattern_of b i p)) r t pen None t ms
+pub known_missing : {b i : List ℕ} {x : ℕ} {ms : List ℕ} {r : ℕ} {d : Table} (p : ℕ) → Memo b i x ms → get_or ms p 0 ≡ 1 → Searches b i x (find x (pattern_of b i p)) r d (Ok None) d ms
 known_missing p m e = searched_none m (m.sound p e)

@@ -10,11 +10,13 @@ use Rattle.array.specs.Path.{Side, path}
 use Rattle.book.specs.Tree.{Pat, name, pat_row, Pats, no_pats, more_pats, group}
 use Rattle.book.proofs.Built.{group_next, group_none}
 use Rattle.named.specs.Combinators.{TAKE, DROP, kinds, wraps}
-use Rattle.named.specs.Draws.{Draws}
-use Rattle.named.specs.declared.node.Pen.{Pen}
+use Rattle.std.specs.Prelude.{Result, Ok, Err}
+use Rattle.book.specs.declared.fault.Refusal.{Refusal}
+use Rattle.named.specs.Stores.{Done}
+use Rattle.named.specs.Table.{Table}
 use Rattle.pattern.specs.Find.{size, within, find, find_from}
 use Rattle.pattern.specs.Seeks.{Absent, Found}
-use Rattle.pattern.proofs.Selectors.{found_in}
+use Rattle.pattern.proofs.Selectors.{found_in, full_in}
 
 -- the patterns a of a group of s fields that stands m times from field h on
 abbrev pub row_at : ℕ → (ℕ → Pat) → ℕ → ℕ → Pats
@@ -49,24 +51,24 @@ module _ (x s : ℕ) (a : ℕ → Pat) (h n : ℕ) where
   left_none k o = rw (group_none s no_pats (λ i. more_pats (a i)) (h + k * s) (n - k) (omega arith))
 
 -- a search that comes to w has passed the elements before k of a row of n from field h on, and stored nothing
-pub record Passes (w : Option (List Side)) (x s : ℕ) (a : ℕ → Pat) (h n k : ℕ) (t t₁ : List ℕ) : Type 0 where
+pub record Passes (w : Option (List Side)) (x s : ℕ) (a : ℕ → Pat) (h n k : ℕ) (d d₁ : Table) : Type 0 where
   pub few : n ≤ 256
   pub low : k ≤ n
-  pub table : t₁ ≡ t
+  pub table : d₁ ≡ d
   pub rest : w ≡ left x s a h n k
 
 -- no element passed yet
-pub passes_none : {w : Option (List Side)} {x s h : ℕ} {a : ℕ → Pat} {n : ℕ} {t : List ℕ} → n ≤ 256 → w ≡ left x s a h n 0 → Passes w x s a h n 0 t t
+pub passes_none : {w : Option (List Side)} {x s h : ℕ} {a : ℕ → Pat} {n : ℕ} {d : Table} → n ≤ 256 → w ≡ left x s a h n 0 → Passes w x s a h n 0 d d
 passes_none few e = record { few = few; low = omega arith; table = refl; rest = e }
 
-module _ {w : Option (List Side)} {x s h : ℕ} {a : ℕ → Pat} {n k : ℕ} {t t₁ : List ℕ} (p : Passes w x s a h n k t t₁) where
+module _ {w : Option (List Side)} {x s h : ℕ} {a : ℕ → Pat} {n k : ℕ} {d d₁ : Table} (p : Passes w x s a h n k d d₁) where
   -- the elements are all passed: the name is missing
-  pub passes_all : n ≤ k → Absent w t t₁
+  pub passes_all : n ≤ k → Absent w d d₁
   passes_all o = record { is = p.rest ∙ left_none x s a h n k o; table = p.table }
 
   module _ (j : ℕ) (o : k < n) (e : j ≡ h + k * s) where
     -- one more, if it has not the name
-    pub passes_next : {t₂ : List ℕ} (u : ℕ) → u ≡ k + 1 → Absent (find x (a j)) t₁ t₂ → Passes w x s a h n u t t₂
+    pub passes_next : {d₂ : Table} (u : ℕ) → u ≡ k + 1 → Absent (find x (a j)) d₁ d₂ → Passes w x s a h n u d d₂
     unfolding within
     passes_next u z f = record {
       few = p.few;
@@ -76,8 +78,12 @@ module _ {w : Option (List Side)} {x s h : ℕ} {a : ℕ → Pat} {n k : ℕ} {t
     }
 
     -- the steps to it, if it has
-    pub passes_found : {r : ℕ} {t₂ t₃ : List ℕ} {pen q v : Pen} → Found r t₁ pen (find x (a j)) q t₂ → Draws r t₂ q (wraps r (kinds TAKE DROP (path n k)) q.root) v t₃ → Found r t pen w v t₃
-    passes_found f d = found_in n k (find x (a j)) (left x s a h n (suc k)) (rw p.table at f) (p.rest ∙ left_next x s a h n k j o e) d
+    pub passes_found : {r : ℕ} {d₂ d₃ : Table} {c : ℕ} {v : Result ℕ Refusal} → Found r d₁ (find x (a j)) (Ok c) d₂ → Done d₂ (wraps r (kinds TAKE DROP (path n k)) c) v d₃ → Found r d w v d₃
+    passes_found f q = found_in n k (find x (a j)) (left x s a h n (suc k)) (rw p.table at f) (p.rest ∙ left_next x s a h n k j o e) q
+
+    -- there is no room for what was found in it
+    pub passes_full : {r : ℕ} {d₂ : Table} {z : Refusal} → Found r d₁ (find x (a j)) (Err z) d₂ → Found r d w (Err z) d₂
+    passes_full f = full_in n k (find x (a j)) (left x s a h n (suc k)) (rw p.table at f) (p.rest ∙ left_next x s a h n k j o e)
 
 -- a name is found where it stands
 pub name_is : (x z y : ℕ) → y ≡ z → y ≡ x → find x (name z) ≡ some []

@@ -15,8 +15,10 @@ use Rattle.book.specs.Stands.{Stands}
 use Rattle.book.specs.Tree.{Pat, name, ignore, pat_row, more_pats, Tree, as_pattern, as_fun, group, pattern_of, fun_of, tree, params_at}
 use Rattle.book.proofs.Standing.{stands_mark, stands_tree, head_lies, head_most, each_lies, each_stands, each_below, function_mark}
 use Rattle.named.specs.Combinators.{iden}
-use Rattle.named.specs.Draws.{Draws}
-use Rattle.named.specs.declared.node.Pen.{Pen}
+use Rattle.std.specs.Prelude.{Result}
+use Rattle.book.specs.declared.fault.Refusal.{Refusal}
+use Rattle.named.specs.Stores.{Done}
+use Rattle.named.specs.Table.{Table}
 use Rattle.pattern.specs.Find.{find, called, params_pattern, params_of}
 use Rattle.pattern.specs.Seeks.{Found}
 use Rattle.pattern.proofs.Selectors.{found_here}
@@ -76,7 +78,7 @@ module _ {b i : List ℕ} {p : ℕ} (s : Stands b i p PATTERN) where
 
   -- so a search in it that enters no row: the name is found, or is missing
   module _ (m : ℕ) (is : m ≡ mark b i p) where
-    pub name_found : {x r : ℕ} {t t' : List ℕ} {pen q : Pen} (y : ℕ) → m ≡ PI → y ≡ field b i p 0 → y ≡ x → Draws r t pen (iden r) q t' → Found r t pen (find x (pattern_of b i p)) q t'
+    pub name_found : {x r : ℕ} {d d' : Table} {s : Result ℕ Refusal} (y : ℕ) → m ≡ PI → y ≡ field b i p 0 → y ≡ x → Done d (iden r) s d' → Found r d (find x (pattern_of b i p)) s d'
     name_found {x} y e f o d = found_here (finds_name x (sym is ∙ e) ∙ name_is x _ y f o) d
 
     pub name_missing : {x : ℕ} (y : ℕ) → m ≡ PI → y ≡ field b i p 0 → (y ≡ x → ⊥) → find x (pattern_of b i p) ≡ none

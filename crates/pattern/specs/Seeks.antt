@@ -1,48 +1,51 @@
--- What a search for a name promises: no path and no node, or the selector of the path.
+-- What a search for a name promises: no path and no node, or the selector of the path, as far as there is room.
 -- Assumes nothing.
 use Rattle.std.specs.Prelude.{ℕ, ◌≡◌, List, length, get_or, Some, None, Result, Ok, Err}
 use Rattle.std.specs.Prelude as std
 use Rattle.std.proofs.Math.Option.{Option, some, none}
 use Rattle.array.specs.Path.{Side}
 use Rattle.book.specs.Tree.{pattern_of}
+use Rattle.book.specs.declared.fault.Refusal.{Refusal}
 use Rattle.named.specs.Trace.{Run}
 use Rattle.named.specs.Combinators.{TAKE, DROP, kinds, select}
-use Rattle.named.specs.Draws.{Draws}
-use Rattle.named.specs.declared.node.Pen.{Pen}
+use Rattle.named.specs.Stores.{Done}
+use Rattle.named.specs.Table.{Table}
 use Rattle.pattern.specs.Find.{find}
-use Rattle.pattern.specs.declared.Nested.{Nested}
+use Rattle.pattern.specs.declared.Near.{Near}
+use Rattle.pattern.specs.declared.Near.TheVariants as nears
 
 -- document 01, Scope: the selector of a path, for record r
 abbrev pub selector : ℕ → List Side → Run ℕ
 selector r ks = select r (kinds TAKE DROP ks)
 
 -- there is no path, and the table is as it was
-pub record Absent (w : Option (List Side)) (t t' : List ℕ) : Type 0 where
+pub record Absent (w : Option (List Side)) (d d' : Table) : Type 0 where
   pub is : w ≡ none
-  pub table : t' ≡ t
+  pub table : d' ≡ d
 
--- there is one, and its selector was drawn
-pub record Found (r : ℕ) (t : List ℕ) (p : Pen) (w : Option (List Side)) (q : Pen) (t' : List ℕ) : Type 0 where
+-- there is one, and storing its selector gave the answer s
+pub record Found (r : ℕ) (d : Table) (w : Option (List Side)) (s : Result ℕ Refusal) (d' : Table) : Type 0 where
   pub along : List Side
   pub is : w ≡ some along
-  pub drawn : Draws r t p (selector r along) q t'
+  pub stored : Done d (selector r along) s d'
 
 -- what a search answers, and what one without a row of vain searches answers
 abbrev pub Sought : Type 0
-Sought = std.Option Pen
+Sought = Result (std.Option ℕ) Refusal
 
-abbrev pub Near : Type 0
-Near = Result Sought Nested
+abbrev pub NearSought : Type 0
+NearSought = Result Near Refusal
 
 -- by the answer
-unfoldable pub Fate : ℕ → List ℕ → Pen → Option (List Side) → Sought → List ℕ → Type 0
-Fate r t p w None t' = Absent w t t'
-Fate r t p w (Some q) t' = Found r t p w q t'
+unfoldable pub Fate : ℕ → Table → Option (List Side) → Sought → Table → Type 0
+Fate r d w (Ok None) d' = Absent w d d'
+Fate r d w (Ok (Some a)) d' = Found r d w (Ok a) d'
+Fate r d w (Err e) d' = Found r d w (Err e) d'
 
--- for record r, from the table t and the pen p, a search that comes to w gave the answer s and left the table t'
-pub record Seeks (r : ℕ) (t : List ℕ) (p : Pen) (w : Option (List Side)) (s : Sought) (t' : List ℕ) : Type 0 where
-  pub kept : length t' ≡ length t
-  pub fate : Fate r t p w s t'
+-- for record r, from the table d, a search that comes to w gave the answer s and left the table d'
+pub record Seeks (r : ℕ) (d : Table) (w : Option (List Side)) (s : Sought) (d' : Table) : Type 0 where
+  pub kept : length d'.bytes.now ≡ length d.bytes.now
+  pub fate : Fate r d w s d'
 
 -- a row with an entry for each record there may be, 1 only where the pattern has no place of the name x
 pub record Memo (b i : List ℕ) (x : ℕ) (ms : List ℕ) : Type 0 where
@@ -50,16 +53,18 @@ pub record Memo (b i : List ℕ) (x : ℕ) (ms : List ℕ) : Type 0 where
   pub sound : (r : ℕ) → get_or ms r 0 ≡ 1 → find x (pattern_of b i r) ≡ none
 
 -- a search for the name x that comes to w, with such a row; it leaves the row ms
-pub record Searches (b i : List ℕ) (x : ℕ) (w : Option (List Side)) (r : ℕ) (t : List ℕ) (p : Pen) (s : Sought) (t' ms : List ℕ) : Type 0 where
+pub record Searches (b i : List ℕ) (x : ℕ) (w : Option (List Side)) (r : ℕ) (d : Table) (s : Sought) (d' : Table) (ms : List ℕ) : Type 0 where
   pub memo : Memo b i x ms
-  pub sought : Seeks r t p w s t'
+  pub sought : Seeks r d w s d'
 
 -- by the answer of a search without such a row: where it found a row within a row, the table is as it was and nothing is said of w
-unfoldable pub NearFate : ℕ → List ℕ → Pen → Option (List Side) → Near → List ℕ → Type 0
-NearFate r t p w (Ok s) t' = Fate r t p w s t'
-NearFate r t p w (Err e) t' = t' ≡ t
+unfoldable pub NearFate : ℕ → Table → Option (List Side) → NearSought → Table → Type 0
+NearFate r d w (Ok nears.Missing) d' = Absent w d d'
+NearFate r d w (Ok nears.Nested) d' = d' ≡ d
+NearFate r d w (Ok (nears.Found a)) d' = Found r d w (Ok a) d'
+NearFate r d w (Err e) d' = Found r d w (Err e) d'
 
 -- the promise of a search without such a row
-pub record Nears (r : ℕ) (t : List ℕ) (p : Pen) (w : Option (List Side)) (s : Near) (t' : List ℕ) : Type 0 where
-  pub kept : length t' ≡ length t
-  pub fate : NearFate r t p w s t'
+pub record Nears (r : ℕ) (d : Table) (w : Option (List Side)) (s : NearSought) (d' : Table) : Type 0 where
+  pub kept : length d'.bytes.now ≡ length d.bytes.now
+  pub fate : NearFate r d w s d'

@@ -9,16 +9,22 @@ ghost use Rattle.book.specs.Stands.{Stands};
 ghost use Rattle.pattern.specs.Find.{find, params_pattern, params_of};
 ghost use Rattle.pattern.specs.Seeks.{Seeks, Memo, Searches, Nears};
 
+use book::fault::Refusal;
 use book::format::{PI, PT};
 use book::record::Book;
 use named::build::along;
-use named::node::{DROP, IDEN, Pen, TAKE, put};
+use named::node::{DROP, IDEN, Nodes, TAKE};
 
-// Each search answers the pen after the name's selector was drawn, or none where the name is missing, and then nothing was stored.
-
-// Why a search that keeps no row of vain searches gives up: a row stands within a row. Nothing was stored.
+// What a search that keeps no row of vain searches finds: the name is missing; a row stands within a row, which is for a search that
+// keeps one; or the name's selector.
 #[derive(Clone, Copy)]
-pub struct Nested;
+pub enum Near {
+    Missing,
+    Nested,
+    Found(u16),
+}
+
+// Each search stores the selector of the name that it finds, and nothing where it finds none.
 
 // Searches a pattern from the left. Patterns share their parts, so that a pattern may have more places than could ever be visited:
 // `missing` has a 1 for each record in which this name was already sought in vain, and no such record is entered again.
@@ -28,46 +34,48 @@ pub fn get_from(
     p: u16,
     name: u16,
     missing: &mut [u8],
-    nodes: &mut [u8],
+    nodes: &mut Nodes,
     place: u16,
-    pen: Pen,
-) -> Option<Pen>
+) -> Result<Option<u16>, Refusal>
     requires { (Stands book.now.bytes book.now.index p PATTERN) × (Memo book.now.bytes book.now.index name missing.old) }
-    ensures { Searches book.now.bytes book.now.index name (find name (pattern_of book.now.bytes book.now.index p)) place nodes.old pen result nodes.new missing.new }
+    ensures { Searches book.now.bytes book.now.index name (find name (pattern_of book.now.bytes book.now.index p)) place nodes.old result nodes.new missing.new }
 {
     if missing[p as usize] == 1 {
-        return None;
+        return Ok(None);
     }
     match book.mark_at(p) {
-        PT => get_row(book, p, name, missing, nodes, place, pen),
-        PI if book.field_at(p, 0) == name => Some(put(nodes, place, pen, IDEN, 0, 0)),
-        _ => None,
+        PT => get_row(book, p, name, missing, nodes, place),
+        PI if book.field_at(p, 0) == name => {
+            let node = nodes.put(place, IDEN, 0, 0)?;
+            Ok(Some(node))
+        }
+        _ => Ok(None),
     }
 }
 
-// The same for a row: its elements one after another. The steps to the element that has the name are drawn around what was found in it.
+// The same for a row: its elements one after another. The steps to the element that has the name go around what was found in it.
 #[cycle(seeking)]
 fn get_row(
     book: &Book,
     p: u16,
     name: u16,
     missing: &mut [u8],
-    nodes: &mut [u8],
+    nodes: &mut Nodes,
     place: u16,
-    pen: Pen,
-) -> Option<Pen>
+) -> Result<Option<u16>, Refusal>
     requires { (Stands book.now.bytes book.now.index p PATTERN) × ((mark book.now.bytes book.now.index p ≡ PT) × (Memo book.now.bytes book.now.index name missing.old)) }
-    ensures { Searches book.now.bytes book.now.index name (find name (pattern_of book.now.bytes book.now.index p)) place nodes.old pen result nodes.new missing.new }
+    ensures { Searches book.now.bytes book.now.index name (find name (pattern_of book.now.bytes book.now.index p)) place nodes.old result nodes.new missing.new }
 {
     let n = book.field_at(p, 0) as u32;
     for k in 0..n {
         let part = book.field_at(p, 1 + (k as usize));
-        if let Some(inner) = get_from(book, part, name, missing, nodes, place, pen) {
-            return Some(along(nodes, place, inner, TAKE, DROP, n, k));
+        if let Some(inner) = get_from(book, part, name, missing, nodes, place)? {
+            let node = along(nodes, place, inner, TAKE, DROP, n, k)?;
+            return Ok(Some(node));
         }
     }
     missing[p as usize] = 1;
-    None
+    Ok(None)
 }
 
 // Searches a function's parameter tuple from the left.
@@ -75,21 +83,21 @@ pub fn get_param(
     book: &Book,
     f: u16,
     name: u16,
-    nodes: &mut [u8],
+    nodes: &mut Nodes,
     place: u16,
-    pen: Pen,
-) -> Option<Pen>
+) -> Result<Option<u16>, Refusal>
     requires { Stands book.now.bytes book.now.index f FUNCTION }
-    ensures { Seeks place nodes.old pen (find name (params_pattern (params_of (fun_of book.now.bytes book.now.index f)))) result nodes.new }
+    ensures { Seeks place nodes.old (find name (params_pattern (params_of (fun_of book.now.bytes book.now.index f)))) result nodes.new }
 {
     let n = book.field_at(f, 1) as u32;
     for k in 0..n {
         if book.field_at(f, 2 + 2 * (k as usize)) == name {
-            let inner = put(nodes, place, pen, IDEN, 0, 0);
-            return Some(along(nodes, place, inner, TAKE, DROP, n, k));
+            let inner = nodes.put(place, IDEN, 0, 0)?;
+            let node = along(nodes, place, inner, TAKE, DROP, n, k)?;
+            return Ok(Some(node));
         }
     }
-    None
+    Ok(None)
 }
 
 // Searches a pattern that nests no row in a row, as most do. Each of its places is one field, so nothing need be remembered, and no row
@@ -98,42 +106,39 @@ pub fn get_shallow(
     book: &Book,
     p: u16,
     name: u16,
-    nodes: &mut [u8],
+    nodes: &mut Nodes,
     place: u16,
-    pen: Pen,
-) -> Result<Option<Pen>, Nested>
+) -> Result<Near, Refusal>
     requires { Stands book.now.bytes book.now.index p PATTERN }
-    ensures { Nears place nodes.old pen (find name (pattern_of book.now.bytes book.now.index p)) result nodes.new }
+    ensures { Nears place nodes.old (find name (pattern_of book.now.bytes book.now.index p)) result nodes.new }
 {
     if book.mark_at(p) == PT {
-        get_among(book, p, name, nodes, place, pen)
+        get_among(book, p, name, nodes, place)
     } else {
-        get_single(book, p, name, nodes, place, pen)
+        get_single(book, p, name, nodes, place)
     }
 }
 
 // The elements of a row from the left, up to the first that is a row itself. `get_row` is its like with a row of vain searches: one
 // function for both would ask at each element whether there is such a row, and this one was made for speed.
-fn get_among(
-    book: &Book,
-    p: u16,
-    name: u16,
-    nodes: &mut [u8],
-    place: u16,
-    pen: Pen,
-) -> Result<Option<Pen>, Nested>
+fn get_among(book: &Book, p: u16, name: u16, nodes: &mut Nodes, place: u16) -> Result<Near, Refusal>
     requires stands { Stands book.now.bytes book.now.index p PATTERN }
     requires mark_is { mark book.now.bytes book.now.index p ≡ PT }
-    ensures { Nears place nodes.old pen (find name (pattern_of book.now.bytes book.now.index p)) result nodes.new }
+    ensures { Nears place nodes.old (find name (pattern_of book.now.bytes book.now.index p)) result nodes.new }
 {
     let n = book.field_at(p, 0) as u32;
     for k in 0..n {
         let part = book.field_at(p, 1 + (k as usize));
-        if let Some(inner) = get_single(book, part, name, nodes, place, pen)? {
-            return Ok(Some(along(nodes, place, inner, TAKE, DROP, n, k)));
+        match get_single(book, part, name, nodes, place)? {
+            Near::Missing => {}
+            Near::Nested => return Ok(Near::Nested),
+            Near::Found(inner) => {
+                let node = along(nodes, place, inner, TAKE, DROP, n, k)?;
+                return Ok(Near::Found(node));
+            }
         }
     }
-    Ok(None)
+    Ok(Near::Missing)
 }
 
 // A pattern that is no row: a name, or nothing named.
@@ -141,16 +146,18 @@ fn get_single(
     book: &Book,
     p: u16,
     name: u16,
-    nodes: &mut [u8],
+    nodes: &mut Nodes,
     place: u16,
-    pen: Pen,
-) -> Result<Option<Pen>, Nested>
+) -> Result<Near, Refusal>
     requires { Stands book.now.bytes book.now.index p PATTERN }
-    ensures { Nears place nodes.old pen (find name (pattern_of book.now.bytes book.now.index p)) result nodes.new }
+    ensures { Nears place nodes.old (find name (pattern_of book.now.bytes book.now.index p)) result nodes.new }
 {
     match book.mark_at(p) {
-        PT => Err(Nested),
-        PI if book.field_at(p, 0) == name => Ok(Some(put(nodes, place, pen, IDEN, 0, 0))),
-        _ => Ok(None),
+        PT => Ok(Near::Nested),
+        PI if book.field_at(p, 0) == name => {
+            let node = nodes.put(place, IDEN, 0, 0)?;
+            Ok(Near::Found(node))
+        }
+        _ => Ok(Near::Missing),
     }
 }

@@ -10,25 +10,17 @@ use lib.Pow.{pow_pos, pow_mono}
 use lib.ListN.{length, get_or, take, drop}
 use lib.Seq.{get_or-take, length-take-le, drop-cons, drop-length}
 use Rattle.laws.specs.Order.{pow_less}
+use Rattle.std.specs.Prelude.{Result, Ok, Err}
+use Rattle.book.specs.declared.fault.Refusal.{Refusal}
 use Rattle.array.specs.Split.{top_of}
 use Rattle.named.specs.Trace.{Run, bind}
-use Rattle.named.specs.Draws.{Draws}
-use Rattle.named.specs.declared.node.Pen.{Pen}
+use Rattle.named.specs.Stores.{Done}
+use Rattle.named.specs.Table.{Table}
 use Rattle.named.proofs.Runs.{bind_bind, bind_pure, bind_done}
-use Rattle.named.proofs.Pens.{draw_then, draw_pure}
+use Rattle.named.proofs.Storing.{then, halt, done_pure}
 use Rattle.recipes.specs.ForWhile.{for_while0, adapt, for_while, task, done_from, tasks, Twice}
 use Rattle.recipes.specs.declared.for_while.Task.{Task}
 use Rattle.recipes.specs.declared.for_while.Task.TheVariants.{ForWhile0, Adapt}
-
--- by the task
-module _ {r : ℕ} {t t' : List ℕ} {p q : Pen} (x : Task) (f : ℕ) where
-  pub task_loop : x ≡ ForWhile0 → Draws r t p (for_while0 r f) q t' → Draws r t p (task r x f) q t'
-  unfolding task
-  task_loop e d = rw e d
-
-  pub task_adapt : x ≡ Adapt → Draws r t p (adapt r f) q t' → Draws r t p (task r x f) q t'
-  unfolding task
-  task_adapt e d = rw e d
 
 -- a width that is a power of two is not 0, and up to 16 its place is at most 4
 pub width_some : {w : ℕ} → w ≡ 2 ^ top_of w → 0 < w
@@ -70,24 +62,30 @@ module _ (r : ℕ) where
   done_all (suc k) = λ i f. (done_append (tasks k ++ tasks k) (Adapt ∷ []) f
       ∙ ap₂ (λ (m : Run ℕ) (l : ℕ → Run ℕ). bind m l) (bind_pure f (adapt r)) (λ j g. (done_append (tasks k) (tasks k) g ∙ ap (λ (w : ℕ → Run ℕ). bind (w g) w) (done_all k)) j)) i
 
--- the first n tasks of a row from the last on, around the pen's node
-module _ {r : ℕ} {t : List ℕ} {p : Pen} (xs : List Task) (n : ℕ) (fits : n ≤ length xs) where
-  pub done_none : Draws r t p (done_from r (drop n (take n xs)) p.root) p t
+-- the first n tasks of a row from the last on, around a node
+module _ (r f : ℕ) {d : Table} (xs : List Task) (n : ℕ) (fits : n ≤ length xs) where
+  pub done_none : Done d (done_from r (drop n (take n xs)) f) (Ok f) d
   unfolding done_from
   done_none =
       let e : drop n (take n xs) ≡ [] = ap (λ (k : ℕ). drop k (take n xs)) (sym (length-take-le n xs fits)) ∙ drop-length (take n xs) in
-      rw e (draw_pure r t p)
+      rw e (done_pure d f)
 
-  pub done_next : {t₁ t₂ : List ℕ} {q s : Pen} (j k : ℕ) → k ≤ n → 0 < k → j ≡ k - 1 → Draws r t p (done_from r (drop k (take n xs)) p.root) q t₁ → Draws r t₁ q (task r (get_or xs j ForWhile0) q.root) s t₂ → Draws r t p (done_from r (drop j (take n xs)) p.root) s t₂
+  pub done_next : {d₁ d₂ : Table} {g : ℕ} {s : Result ℕ Refusal} (j k : ℕ) → k ≤ n → 0 < k → j ≡ k - 1 → Done d (done_from r (drop k (take n xs)) f) (Ok g) d₁ → Done d₁ (task r (get_or xs j ForWhile0) g) s d₂ → Done d (done_from r (drop j (take n xs)) f) s d₂
   unfolding done_from
-  done_next j k h o e d g =
+  done_next j k h o e p q =
       let z : k ≡ suc j = omega arith in
-      rw (drop-cons (take n xs) j ForWhile0 (omega (arith, length-take-le n xs fits)), get_or-take n xs j ForWhile0 (omega arith)) (draw_then _ (rw z at d) g)
+      rw (drop-cons (take n xs) j ForWhile0 (omega (arith, length-take-le n xs fits)), get_or-take n xs j ForWhile0 (omega arith)) (then _ (rw z at p) q)
+
+  -- where one is refused, so are all
+  pub done_stop : {d₁ : Table} {w : Refusal} (k : ℕ) → k ≤ n → Done d (done_from r (drop k (take n xs)) f) (Err w) d₁ → Done d (done_from r (take n xs) f) (Err w) d₁
+  unfolding done_from
+  done_stop zero h p = p
+  done_stop (suc k) h p =
+      done_stop k (omega arith) (rw (drop-cons (take n xs) k ForWhile0 (omega (arith, length-take-le n xs fits))) (halt (task r (get_or (take n xs) k ForWhile0)) p))
 
 -- all of them, from the node f on
-pub loop_all : {r : ℕ} {t t' : List ℕ} {p q : Pen} (f k w : ℕ) (ts : List Task) → k ≤ 0 → ts ≡ tasks w → Draws r t (record { next = p.next; root = f; full = p.full }) (done_from r (drop k ts) f) q t' → Draws r t p (for_while r w f) q t'
-loop_all {r} f zero w ts h e d =
+pub loop_all : {d d' : Table} {s : Result ℕ Refusal} (r f k w : ℕ) (ts : List Task) → k ≤ 0 → ts ≡ tasks w → Done d (done_from r (drop k ts) f) s d' → Done d (for_while r w f) s d'
+loop_all r f zero w ts h e p =
     let a : done_from r ts f ≡ for_while r w f = ap (λ (xs : List Task). done_from r xs f) e ∙ ap (λ (g : ℕ → Run ℕ). g f) (done_all r w) in
-    let g = rw a at d in
-    record { kept = g.kept; shut = g.shut; drawn = g.drawn; full = g.full }
-loop_all f (suc k) w ts h e d = absurd (omega arith)
+    rw a at p
+loop_all r f (suc k) w ts h e p = absurd (omega arith)

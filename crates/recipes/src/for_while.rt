@@ -1,12 +1,15 @@
 // The loop over a counter: the original's row of tasks, done from its end on.
+#![tactic(auto, using(named::proofs::Storing::then, named::proofs::Storing::halt, named::proofs::Storing::handed), unfolding(crate::specs::ForWhile::turn, crate::specs::ForWhile::for_while0, crate::specs::ForWhile::adapt, crate::specs::ForWhile::task))]
+
 ghost use Rattle.std.specs.Prelude.{◌≡◌, ◌-◌, ◌*◌, ◌^◌, ◌<◌, ◌≤◌, length, take};
 ghost use Rattle.array.specs.Split.{top_of};
-ghost use Rattle.named.specs.Draws.{Draws};
+ghost use Rattle.named.specs.Stores.{Done};
 ghost use Rattle.recipes.specs.ForWhile.{turn, for_while0, adapt, for_while, task, tasks, Twice};
 
 use array::top;
+use book::fault::Refusal;
 use named::build::{bit, select};
-use named::node::{CASE, COMP, DROP, INJL, PAIR, Pen, TAKE, put};
+use named::node::{CASE, COMP, DROP, INJL, Nodes, PAIR, TAKE};
 
 // What is next done to the loop's body.
 #[derive(Clone, Copy)]
@@ -16,60 +19,60 @@ pub enum Task {
 }
 
 // A turn of the loop with a counter of one bit.
-fn turn(nodes: &mut [u8], place: u16, pen: Pen, counter: bool, f: u16) -> Pen
-    ensures { Draws place nodes.old pen (turn place counter f) result nodes.new }
+fn turn(nodes: &mut Nodes, place: u16, counter: bool, f: u16) -> Result<u16, Refusal>
+    ensures { Done nodes.old (turn place counter f) result nodes.new }
 {
     let o = [TAKE];
     let i = [DROP];
-    let accumulator = select(nodes, place, pen, &o);
-    let context = select(nodes, place, accumulator, &i);
-    let count = bit(nodes, place, context, counter);
-    let rest = put(nodes, place, count, PAIR, context.root, count.root);
-    let input = put(nodes, place, rest, PAIR, accumulator.root, rest.root);
-    put(nodes, place, input, COMP, input.root, f)
+    let accumulator = select(nodes, place, &o)?;
+    let context = select(nodes, place, &i)?;
+    let count = bit(nodes, place, counter)?;
+    let rest = nodes.put(place, PAIR, context, count)?;
+    let input = nodes.put(place, PAIR, accumulator, rest)?;
+    nodes.put(place, COMP, input, f)
 }
 
 // The turn with bit false, then, unless it stopped, the one with bit true.
-fn for_while_0(nodes: &mut [u8], place: u16, pen: Pen, f: u16) -> Pen
-    ensures { Draws place nodes.old pen (for_while0 place f) result nodes.new }
+fn for_while_0(nodes: &mut Nodes, place: u16, f: u16) -> Result<u16, Refusal>
+    ensures { Done nodes.old (for_while0 place f) result nodes.new }
 {
     let o = [TAKE];
     let i = [DROP];
-    let first = turn(nodes, place, pen, false, f);
-    let context = select(nodes, place, first, &i);
-    let input = put(nodes, place, context, PAIR, first.root, context.root);
-    let result = select(nodes, place, input, &o);
-    let stop = put(nodes, place, result, INJL, result.root, 0);
-    let second = turn(nodes, place, stop, true, f);
-    let choice = put(nodes, place, second, CASE, stop.root, second.root);
-    put(nodes, place, choice, COMP, input.root, choice.root)
+    let first = turn(nodes, place, false, f)?;
+    let context = select(nodes, place, &i)?;
+    let input = nodes.put(place, PAIR, first, context)?;
+    let result = select(nodes, place, &o)?;
+    let stop = nodes.put(place, INJL, result, 0)?;
+    let second = turn(nodes, place, true, f)?;
+    let choice = nodes.put(place, CASE, stop, second)?;
+    nodes.put(place, COMP, input, choice)
 }
 
 // Takes the counter's high half out of the context and joins it to the low.
-fn adapt_f(nodes: &mut [u8], place: u16, pen: Pen, f: u16) -> Pen
-    ensures { Draws place nodes.old pen (adapt place f) result nodes.new }
+fn adapt_f(nodes: &mut Nodes, place: u16, f: u16) -> Result<u16, Refusal>
+    ensures { Done nodes.old (adapt place f) result nodes.new }
 {
     let o = [TAKE];
     let ioo = [DROP, TAKE, TAKE];
     let ioi = [DROP, TAKE, DROP];
     let ii = [DROP, DROP];
-    let accumulator = select(nodes, place, pen, &o);
-    let context = select(nodes, place, accumulator, &ioo);
-    let high = select(nodes, place, context, &ioi);
-    let low = select(nodes, place, high, &ii);
-    let counter = put(nodes, place, low, PAIR, high.root, low.root);
-    let rest = put(nodes, place, counter, PAIR, context.root, counter.root);
-    let input = put(nodes, place, rest, PAIR, accumulator.root, rest.root);
-    put(nodes, place, input, COMP, input.root, f)
+    let accumulator = select(nodes, place, &o)?;
+    let context = select(nodes, place, &ioo)?;
+    let high = select(nodes, place, &ioi)?;
+    let low = select(nodes, place, &ii)?;
+    let counter = nodes.put(place, PAIR, high, low)?;
+    let rest = nodes.put(place, PAIR, context, counter)?;
+    let input = nodes.put(place, PAIR, accumulator, rest)?;
+    nodes.put(place, COMP, input, f)
 }
 
-// A task, done to the pen's node.
-fn step(nodes: &mut [u8], place: u16, pen: Pen, next: Task) -> Pen
-    ensures { Draws place nodes.old pen (task place next pen.root) result nodes.new }
+// A task, done to a node.
+fn step(nodes: &mut Nodes, place: u16, next: Task, f: u16) -> Result<u16, Refusal>
+    ensures { Done nodes.old (task place next f) result nodes.new }
 {
     match next {
-        Task::ForWhile0 => for_while_0(nodes, place, pen, pen.root),
-        Task::Adapt => adapt_f(nodes, place, pen, pen.root),
+        Task::ForWhile0 => for_while_0(nodes, place, f),
+        Task::Adapt => adapt_f(nodes, place, f),
     }
 }
 
@@ -96,15 +99,15 @@ fn filled(power: u32) -> [Task; 31]
 }
 
 // Loops over a counter of a width that is a power of two up to 16.
-pub fn for_while(nodes: &mut [u8], place: u16, pen: Pen, width: u16, f: u16) -> Pen
+pub fn for_while(nodes: &mut Nodes, place: u16, width: u16, f: u16) -> Result<u16, Refusal>
     requires width_is { width ≡ 2 ^ top_of width }
     requires width_in_range { width ≤ 16 }
-    ensures { Draws place nodes.old pen (for_while place (top_of width) f) result nodes.new }
+    ensures { Done nodes.old (for_while place (top_of width) f) result nodes.new }
 {
     let stack = filled(top(width as u32));
-    let mut at = Pen { root: f, ..pen };
+    let mut at = f;
     for k in (0..2 * (width as usize) - 1).rev() {
-        at = step(nodes, place, at, stack[k]);
+        at = step(nodes, place, stack[k], at)?;
     }
-    at
+    Ok(at)
 }

@@ -1,4 +1,4 @@
--- Laws of a search from the newest binding on, and of the steps that it draws.
+-- Laws of a search from the newest binding on, and of the steps to what it finds.
 -- Assumes nothing.
 use Prim.Native.Nat.{ℕ, zero, suc, ◌+◌, ◌-◌, ◌<◌, ◌≤◌}
 use mathlib.Core.List.{List, [], ◌∷◌, map-append}
@@ -6,42 +6,43 @@ use mathlib.Core.Option.{Option}
 use mathlib.Core.Path.{◌≡◌, refl, ap, ◌∙◌}
 use native.Mathlib.Omega.{arith}
 use lib.ListN.{get_or, replicate}
-use Rattle.std.specs.Prelude.{Result, Err}
+use Rattle.std.specs.Prelude.{Some, None, Result, Ok, Err}
+use Rattle.std.specs.Prelude as std
+use Rattle.std.specs.Option.{ok_or}
 use Rattle.array.specs.Path.{Side, on_left, on_right}
 use Rattle.book.specs.Faults.{refusal}
 use Rattle.book.specs.declared.fault.Fault.TheVariants.{Undefined}
 use Rattle.book.specs.declared.fault.Refusal.{Refusal}
-use Rattle.named.specs.Trace.{emit}
+use Rattle.named.specs.Trace.{bind, emit}
 use Rattle.named.specs.Combinators.{TAKE, DROP, kinds, wraps}
-use Rattle.named.specs.Draws.{Draws, Done, Opens, Closes}
-use Rattle.named.specs.declared.node.Pen.{Pen}
-use Rattle.named.specs.declared.node.Placed.{Placed}
+use Rattle.named.specs.Stores.{Done}
+use Rattle.named.specs.Table.{Table}
 use Rattle.named.proofs.Runs.{bind_pure}
-use Rattle.named.proofs.Pens.{draw_then, draw_pure, closes, done_stop}
+use Rattle.named.proofs.Storing.{then, halt, done_pure, done_stop}
 use Rattle.pattern.specs.Find.{find}
-use Rattle.pattern.specs.Seeks.{Absent, Found, Sought, Seeks}
-use Rattle.pattern.proofs.Selectors.{wraps_more, found_on}
+use Rattle.pattern.specs.Seeks.{Absent, Found, Sought, Fate, Seeks}
+use Rattle.pattern.proofs.Selectors.{wraps_more, found_on, found_halt}
 use Rattle.scope_bindings.specs.Scope.{reach, through, lookup_from, lookup, lookup_below, fetch, bound, newest}
 use Rattle.scope_bindings.proofs.Scopes.{newest_length}
 
 -- a search that comes to w, for x in the first n bindings, has passed those from `at` on, and stored nothing
-pub record Misses (w : Option (List Side)) (b i : List ℕ) (bs : List ℕ) (n x at : ℕ) (t t₁ : List ℕ) : Type 0 where
+pub record Misses (w : Option (List Side)) (b i : List ℕ) (bs : List ℕ) (n x at : ℕ) (d d₁ : Table) : Type 0 where
   pub low : at ≤ n
-  pub table : t₁ ≡ t
+  pub table : d₁ ≡ d
   pub rest : w ≡ lookup_below b i bs n at x
 
 -- none passed yet, of all there are
-pub misses_whole : (b i : List ℕ) (bs : List ℕ) (n x : ℕ) (t : List ℕ) → Misses (lookup x (newest b i bs n)) b i bs n x n t t
-misses_whole b i bs n x t = let z : n - n ≡ 0 = omega arith in record { low = omega arith; table = refl; rest = rw z }
+pub misses_whole : (b i : List ℕ) (bs : List ℕ) (n x : ℕ) (d : Table) → Misses (lookup x (newest b i bs n)) b i bs n x n d d
+misses_whole b i bs n x d = let z : n - n ≡ 0 = omega arith in record { low = omega arith; table = refl; rest = rw z }
 
-module _ {w : Option (List Side)} {b i : List ℕ} {bs : List ℕ} {n x at : ℕ} {t t₁ : List ℕ} (m : Misses w b i bs n x at t t₁) where
+module _ {w : Option (List Side)} {b i : List ℕ} {bs : List ℕ} {n x at : ℕ} {d d₁ : Table} (m : Misses w b i bs n x at d d₁) where
   -- all passed: the name is not in scope
-  pub misses_all : at ≤ 0 → Absent w t t₁
+  pub misses_all : at ≤ 0 → Absent w d d₁
   unfolding newest lookup_from
   misses_all o = record { is = let z : at ≡ 0 = omega arith in m.rest ∙ rw z; table = m.table }
 
   -- another search goes on from here
-  pub misses_far : {r : ℕ} {t₂ t₃ : List ℕ} {pen : Pen} {s : Sought} (u : ℕ) → u ≡ at → t₂ ≡ t₁ → Seeks r t₂ pen (lookup_below b i bs n u x) s t₃ → Seeks r t pen w s t₃
+  pub misses_far : {r : ℕ} {d₂ d₃ : Table} {s : Sought} (u : ℕ) → u ≡ at → d₂ ≡ d₁ → Seeks r d₂ (lookup_below b i bs n u x) s d₃ → Seeks r d w s d₃
   misses_far u e same h = rw (m.rest, ← m.table, ← same, ← e) h
 
   -- the next binding to search
@@ -50,7 +51,7 @@ module _ {w : Option (List Side)} {b i : List ℕ} {bs : List ℕ} {n x at : ℕ
     unfolding newest lookup_from
     misses_here = let z : at ≡ suc u = omega arith in m.rest ∙ ap (λ k. lookup_from (n - at) x (newest b i bs k)) z ∙ rw (newest_length b i bs u)
 
-    pub misses_next : {t₂ : List ℕ} → Absent (find x (bound b i (get_or bs u 0))) t₁ t₂ → Misses w b i bs n x u t t₂
+    pub misses_next : {d₂ : Table} → Absent (find x (bound b i (get_or bs u 0))) d₁ d₂ → Misses w b i bs n x u d d₂
     unfolding through
     misses_next f = record {
       low = omega (arith, m.low);
@@ -58,49 +59,69 @@ module _ {w : Option (List Side)} {b i : List ℕ} {bs : List ℕ} {n x at : ℕ
       rest = let z : suc (n - at) ≡ n - u = omega (arith, m.low) in misses_here ∙ rw (f.is, z);
     }
 
-    pub misses_found : {r : ℕ} {t₂ t₃ : List ℕ} {pen q v : Pen} (newer : ℕ) → newer ≡ n - 1 - u → Found r t₁ pen (find x (bound b i (get_or bs u 0))) q t₂ → Draws r t₂ q (wraps r (kinds TAKE DROP (reach newer u)) q.root) v t₃ → Found r t pen w v t₃
+    pub misses_found : {r : ℕ} {d₂ d₃ : Table} {a : ℕ} {s : Result ℕ Refusal} (newer : ℕ) → newer ≡ n - 1 - u → Found r d₁ (find x (bound b i (get_or bs u 0))) (Ok a) d₂ → Done d₂ (wraps r (kinds TAKE DROP (reach newer u)) a) s d₃ → Found r d w s d₃
     unfolding through
-    misses_found {r = r} {t₂ = t₂} {pen = pen} {q = q} newer y f d =
+    misses_found {r = r} {d₂ = d₂} {a = a} newer y f p =
         let z : n - at ≡ newer = omega (arith, m.low) in
-        let g : Found r t pen (find x (bound b i (get_or bs u 0))) q t₂ = rw m.table at f in
-        found_on (reach newer u) g (misses_here ∙ rw (g.is, z)) d
+        let g : Found r d (find x (bound b i (get_or bs u 0))) (Ok a) d₂ = rw m.table at f in
+        found_on (reach newer u) g (misses_here ∙ rw (g.is, z)) p
+
+    -- there is no room for what was found in it
+    pub misses_full : {r : ℕ} {d₂ : Table} {e : Refusal} → Found r d₁ (find x (bound b i (get_or bs u 0))) (Err e) d₂ → Found r d w (Err e) d₂
+    unfolding through
+    misses_full {r = r} {d₂ = d₂} {e = e} f =
+        let g : Found r d (find x (bound b i (get_or bs u 0))) (Err e) d₂ = rw m.table at f in
+        found_halt (reach (n - at) u) g (misses_here ∙ rw g.is)
 
 -- drops, one after another
-module _ {r : ℕ} {t : List ℕ} {p : Pen} where
-  pub drops_none : Draws r t p (wraps r (replicate 0 DROP) p.root) p t
+module _ (r a : ℕ) {d : Table} where
+  pub drops_none : Done d (wraps r (replicate 0 DROP) a) (Ok a) d
   unfolding wraps
-  drops_none = draw_pure r t p
+  drops_none = done_pure d a
 
-  pub drops_next : {t₁ t₂ : List ℕ} {q s : Pen} (k u : ℕ) → u ≡ k + 1 → Draws r t p (wraps r (replicate k DROP) p.root) q t₁ → Draws r t₁ q (emit r DROP q.root 0) s t₂ → Draws r t p (wraps r (replicate u DROP) p.root) s t₂
+  pub drops_next : {d₁ d₂ : Table} {c : ℕ} {s : Result ℕ Refusal} (k u : ℕ) → u ≡ k + 1 → Done d (wraps r (replicate k DROP) a) (Ok c) d₁ → Done d₁ (emit r DROP c 0) s d₂ → Done d (wraps r (replicate u DROP) a) s d₂
   unfolding wraps
-  drops_next k u e d f = let z : u ≡ suc k = omega arith in rw z (draw_then (λ a. emit r DROP a 0) d f)
+  drops_next k u e p q = let z : u ≡ suc k = omega arith in rw z (then (λ b. emit r DROP b 0) p q)
 
-  pub drops_all : {t₁ : List ℕ} {q : Pen} (k n : ℕ) → k ≤ n → n ≤ k → Draws r t p (wraps r (replicate k DROP) p.root) q t₁ → Draws r t p (wraps r (replicate n DROP) p.root) q t₁
-  drops_all k n a o d = let z : n ≡ k = omega arith in rw z d
+  pub drops_all : {d₁ : Table} {c : ℕ} (k n : ℕ) → k ≤ n → n ≤ k → Done d (wraps r (replicate k DROP) a) (Ok c) d₁ → Done d (wraps r (replicate n DROP) a) (Ok c) d₁
+  drops_all k n l o p = let z : n ≡ k = omega arith in rw z p
+
+  -- where one is refused, so are all
+  pub drops_stop : {d₁ : Table} {w : Refusal} (k n : ℕ) → k ≤ n → Done d (wraps r (replicate k DROP) a) (Err w) d₁ → Done d (wraps r (replicate n DROP) a) (Err w) d₁
+  unfolding wraps
+  drops_stop {d₁} {w} k n o p = go (n - k) n (omega arith)
+    where
+      go : (m u : ℕ) → u ≡ m + k → Done d (wraps r (replicate u DROP) a) (Err w) d₁
+      go zero u z = let y : u ≡ k = omega arith in rw y p
+      go (suc m) zero z = absurd (omega arith)
+      go (suc m) (suc u) z = halt (λ b. emit r DROP b 0) (go m u (omega arith))
 
 kinds_drops : (n : ℕ) → kinds TAKE DROP (replicate n on_right) ≡ replicate n DROP
 kinds_drops zero = refl
 kinds_drops (suc n) = ap (◌∷◌ DROP) (kinds_drops n)
 
--- the steps to the root; to another binding
-module _ {r : ℕ} {t : List ℕ} {p : Pen} (newer older : ℕ) where
-  pub reach_root : {t₁ : List ℕ} {q : Pen} → older ≡ 0 → Draws r t p (wraps r (replicate newer DROP) p.root) q t₁ → Draws r t p (wraps r (kinds TAKE DROP (reach newer older)) p.root) q t₁
+-- the steps to the root are drops; those to another binding are drops around a take
+module _ (r a newer older : ℕ) where
+  pub reach_root : older ≡ 0 → wraps r (kinds TAKE DROP (reach newer older)) a ≡ wraps r (replicate newer DROP) a
   unfolding reach
-  reach_root e d = rw (e, kinds_drops newer) d
+  reach_root e = rw (e, kinds_drops newer)
 
-  pub reach_other : {t₁ t₂ : List ℕ} {q s : Pen} → (older ≡ 0 → ⊥) → Draws r t p (emit r TAKE p.root 0) q t₁ → Draws r t₁ q (wraps r (replicate newer DROP) q.root) s t₂ → Draws r t p (wraps r (kinds TAKE DROP (reach newer older)) p.root) s t₂
+  pub reach_other : (older ≡ 0 → ⊥) → wraps r (kinds TAKE DROP (reach newer older)) a ≡ bind (emit r TAKE a 0) (wraps r (replicate newer DROP))
   unfolding reach wraps
-  reach_other h d f =
+  reach_other h =
       let z : older ≡ suc (older - 1) = omega (arith, h) in
-      rw (z, map-append _ (replicate newer on_right) (on_left ∷ []), kinds_drops newer, wraps_more r (replicate newer DROP) (TAKE ∷ []) p.root, bind_pure p.root (λ b. emit r TAKE b 0))
-      (draw_then (wraps r (replicate newer DROP)) d f)
+      rw (z, map-append _ (replicate newer on_right) (on_left ∷ []), kinds_drops newer, wraps_more r (replicate newer DROP) (TAKE ∷ []) a, bind_pure a (λ b. emit r TAKE b 0))
 
 -- a variable's node, or its refusal
-module _ {r c : ℕ} {t t' : List ℕ} {w : Option (List Side)} where
-  pub fetch_found : {p q : Pen} {s : Result Placed Refusal} → Opens c p → Found r t p w q t' → Closes r q s → Done t c (fetch r w) s t'
-  unfolding fetch
-  fetch_found o f h = rw f.is (closes o f.drawn h)
+module _ {r : ℕ} {d d' : Table} {w : Option (List Side)} where
+  pub fetch_full : {e : Refusal} → Seeks r d w (Err e) d' → Done d (fetch r w) (Err e) d'
+  unfolding fetch Fate
+  fetch_full h = rw h.fate.is h.fate.stored
 
-  pub fetch_missing : Absent w t t' → Done t c (fetch r w) (Err (refusal Undefined r)) t'
-  unfolding fetch
-  fetch_missing a = rw (a.is, a.table) (done_stop t c r _)
+  pub fetch_answer : {o : std.Option ℕ} {s : Result ℕ Refusal} → Seeks r d w (Ok o) d' → s ≡ ok_or o (refusal Undefined r) → Done d (fetch r w) s d'
+  unfolding fetch Fate
+  fetch_answer {o} h e = rw e (go o h)
+    where
+      go : (o : std.Option ℕ) → Seeks r d w (Ok o) d' → Done d (fetch r w) (ok_or o (refusal Undefined r)) d'
+      go None h = rw (h.fate.is, h.fate.table) (done_stop d r _)
+      go (Some a) h = rw h.fate.is h.fate.stored

@@ -3,7 +3,7 @@
 
 ghost use Rattle.std.specs.Prelude.{◌<◌, ◌≤◌, replicate};
 ghost use Rattle.named.specs.Combinators.{TAKE, DROP, kinds, wraps};
-ghost use Rattle.named.specs.Draws.{Draws, Done};
+ghost use Rattle.named.specs.Stores.{Done};
 ghost use Rattle.pattern.specs.Find.{find};
 ghost use Rattle.pattern.specs.Seeks.{Memo, Seeks, Searches, Nears};
 ghost use Rattle.scope_bindings.specs.Scope.{reach, lookup, lookup_below, variable, bound, scope_of, Binds, ScopeStands, Roots, Inserts};
@@ -11,8 +11,8 @@ ghost use Rattle.scope_bindings.specs.Scope.{reach, lookup, lookup_below, variab
 use book::fault::{Fault, Refusal};
 use book::format::FN;
 use book::record::Book;
-use named::node::{DROP, Pen, Placed, TAKE, answer_of, pen_at, put};
-use pattern::{Nested, get_from, get_param, get_shallow};
+use named::node::{DROP, Nodes, TAKE};
+use pattern::{Near, get_from, get_param, get_shallow};
 
 // An entry for the ignore pattern, which no record need stand for. The entries are no Options: document 01 names a row of 256 filled with
 // the ignore pattern, and an Option would take twice the room in each copy.
@@ -47,25 +47,15 @@ impl ScopeBindings {
     }
 
     // The selector of a name in a scope, or a refusal where the name is not in scope.
-    pub fn get(
-        &self,
-        book: &Book,
-        name: u16,
-        nodes: &mut [u8],
-        place: u16,
-        next: u16,
-    ) -> Result<Placed, Refusal>
+    pub fn get(&self, book: &Book, name: u16, nodes: &mut Nodes, place: u16) -> Result<u16, Refusal>
         requires { ScopeStands book.now.bytes book.now.index self.now }
-        ensures { Done nodes.old next (variable place name (scope_of book.now.bytes book.now.index self.now)) result nodes.new }
+        ensures { Done nodes.old (variable place name (scope_of book.now.bytes book.now.index self.now)) result nodes.new }
     {
-        let pen = pen_at(next);
-        match self.get_near(book, name, nodes, place, pen) {
-            Some(found) => answer_of(place, found),
-            None => Err(Refusal {
-                fault: Fault::Undefined,
-                place,
-            }),
-        }
+        let found = self.get_near(book, name, nodes, place)?;
+        found.ok_or(Refusal {
+            fault: Fault::Undefined,
+            place,
+        })
     }
 
     // Searches the bindings from the newest on, with no row of what was sought in vain, as long as their patterns are flat: to clear such
@@ -75,25 +65,25 @@ impl ScopeBindings {
         &self,
         book: &Book,
         name: u16,
-        nodes: &mut [u8],
+        nodes: &mut Nodes,
         place: u16,
-        pen: Pen,
-    ) -> Option<Pen>
+    ) -> Result<Option<u16>, Refusal>
         requires { ScopeStands book.now.bytes book.now.index self.now }
-        ensures { Seeks place nodes.old pen (lookup name (scope_of book.now.bytes book.now.index self.now)) result nodes.new }
+        ensures { Seeks place nodes.old (lookup name (scope_of book.now.bytes book.now.index self.now)) result nodes.new }
     {
         for at in (0..self.count).rev() {
-            match get_flat(book, self.bindings[at], name, nodes, place, pen) {
-                Ok(Some(found)) => {
-                    return Some(reach(nodes, place, found, self.count - 1 - at, at));
+            match get_flat(book, self.bindings[at], name, nodes, place)? {
+                Near::Missing => {}
+                Near::Nested => {
+                    return self.get_far(book, at + 1, name, nodes, place);
                 }
-                Ok(None) => {}
-                Err(Nested) => {
-                    return self.get_far(book, at + 1, name, nodes, place, pen);
+                Near::Found(found) => {
+                    let node = reach(nodes, place, found, self.count - 1 - at, at)?;
+                    return Ok(Some(node));
                 }
             }
         }
-        None
+        Ok(None)
     }
 
     // Searches the first `from` bindings, the others having been searched in vain, with a row of what was sought in vain.
@@ -102,16 +92,15 @@ impl ScopeBindings {
         book: &Book,
         from: usize,
         name: u16,
-        nodes: &mut [u8],
+        nodes: &mut Nodes,
         place: u16,
-        pen: Pen,
-    ) -> Option<Pen>
+    ) -> Result<Option<u16>, Refusal>
         requires scope_stands { ScopeStands book.now.bytes book.now.index self.now }
         requires from_in_range { from ≤ self.now.count }
-        ensures { Seeks place nodes.old pen (lookup_below book.now.bytes book.now.index self.now.bindings self.now.count from name) result nodes.new }
+        ensures { Seeks place nodes.old (lookup_below book.now.bytes book.now.index self.now.bindings self.now.count from name) result nodes.new }
     {
         let mut missing = [0u8; 4096];
-        self.get_newest(book, from, name, &mut missing, nodes, place, pen)
+        self.get_newest(book, from, name, &mut missing, nodes, place)
     }
 
     // The same, the newest of them first. One row of what was sought in vain serves them all, since they may share their parts.
@@ -121,22 +110,22 @@ impl ScopeBindings {
         from: usize,
         name: u16,
         missing: &mut [u8],
-        nodes: &mut [u8],
+        nodes: &mut Nodes,
         place: u16,
-        pen: Pen,
-    ) -> Option<Pen>
+    ) -> Result<Option<u16>, Refusal>
         requires scope_stands { ScopeStands book.now.bytes book.now.index self.now }
         requires from_in_range { from ≤ self.now.count }
         requires memo { Memo book.now.bytes book.now.index name missing.old }
-        ensures { Searches book.now.bytes book.now.index name (lookup_below book.now.bytes book.now.index self.now.bindings self.now.count from name) place nodes.old pen result nodes.new missing.new }
+        ensures { Searches book.now.bytes book.now.index name (lookup_below book.now.bytes book.now.index self.now.bindings self.now.count from name) place nodes.old result nodes.new missing.new }
     {
         for at in (0..from).rev() {
             let pattern = self.bindings[at];
-            if let Some(inner) = get_bound(book, pattern, name, missing, nodes, place, pen) {
-                return Some(reach(nodes, place, inner, self.count - 1 - at, at));
+            if let Some(inner) = get_bound(book, pattern, name, missing, nodes, place)? {
+                let node = reach(nodes, place, inner, self.count - 1 - at, at)?;
+                return Ok(Some(node));
             }
         }
-        None
+        Ok(None)
     }
 }
 
@@ -145,19 +134,21 @@ fn get_flat(
     book: &Book,
     pattern: u16,
     name: u16,
-    nodes: &mut [u8],
+    nodes: &mut Nodes,
     place: u16,
-    pen: Pen,
-) -> Result<Option<Pen>, Nested>
+) -> Result<Near, Refusal>
     requires { Binds book.now.bytes book.now.index pattern }
-    ensures { Nears place nodes.old pen (find name (bound book.now.bytes book.now.index pattern)) result nodes.new }
+    ensures { Nears place nodes.old (find name (bound book.now.bytes book.now.index pattern)) result nodes.new }
 {
     if pattern == IGNORED {
-        Ok(None)
+        Ok(Near::Missing)
     } else if book.mark_at(pattern) == FN {
-        Ok(get_param(book, pattern, name, nodes, place, pen))
+        match get_param(book, pattern, name, nodes, place)? {
+            None => Ok(Near::Missing),
+            Some(node) => Ok(Near::Found(node)),
+        }
     } else {
-        get_shallow(book, pattern, name, nodes, place, pen)
+        get_shallow(book, pattern, name, nodes, place)
     }
 }
 
@@ -167,42 +158,47 @@ fn get_bound(
     pattern: u16,
     name: u16,
     missing: &mut [u8],
-    nodes: &mut [u8],
+    nodes: &mut Nodes,
     place: u16,
-    pen: Pen,
-) -> Option<Pen>
+) -> Result<Option<u16>, Refusal>
     requires binds { Binds book.now.bytes book.now.index pattern }
     requires memo { Memo book.now.bytes book.now.index name missing.old }
-    ensures { Searches book.now.bytes book.now.index name (find name (bound book.now.bytes book.now.index pattern)) place nodes.old pen result nodes.new missing.new }
+    ensures { Searches book.now.bytes book.now.index name (find name (bound book.now.bytes book.now.index pattern)) place nodes.old result nodes.new missing.new }
 {
     if pattern == IGNORED {
-        None
+        Ok(None)
     } else if book.mark_at(pattern) == FN {
-        get_param(book, pattern, name, nodes, place, pen)
+        get_param(book, pattern, name, nodes, place)
     } else {
-        get_from(book, pattern, name, missing, nodes, place, pen)
+        get_from(book, pattern, name, missing, nodes, place)
     }
 }
 
-// The steps to a binding around what was found in it, where so many bindings are newer and so many older.
-fn reach(nodes: &mut [u8], place: u16, pen: Pen, newer: usize, older: usize) -> Pen
-    ensures { Draws place nodes.old pen (wraps place (kinds TAKE DROP (reach newer older)) pen.root) result nodes.new }
+// The steps to a binding around the node that was found in it, where so many bindings are newer and so many older.
+fn reach(
+    nodes: &mut Nodes,
+    place: u16,
+    node: u16,
+    newer: usize,
+    older: usize,
+) -> Result<u16, Refusal>
+    ensures { Done nodes.old (wraps place (kinds TAKE DROP (reach newer older)) node) result nodes.new }
 {
     if older == 0 {
-        drops(nodes, place, pen, newer)
+        drops(nodes, place, node, newer)
     } else {
-        let new = put(nodes, place, pen, TAKE, pen.root, 0);
-        drops(nodes, place, new, newer)
+        let left = nodes.put(place, TAKE, node, 0)?;
+        drops(nodes, place, left, newer)
     }
 }
 
-// The pen's node wrapped by n drops.
-fn drops(nodes: &mut [u8], place: u16, pen: Pen, n: usize) -> Pen
-    ensures { Draws place nodes.old pen (wraps place (replicate n DROP) pen.root) result nodes.new }
+// A node wrapped by n drops.
+fn drops(nodes: &mut Nodes, place: u16, node: u16, n: usize) -> Result<u16, Refusal>
+    ensures { Done nodes.old (wraps place (replicate n DROP) node) result nodes.new }
 {
-    let mut at = pen;
+    let mut at = node;
     for _k in 0..n {
-        at = put(nodes, place, at, DROP, at.root, 0);
+        at = nodes.put(place, DROP, at, 0)?;
     }
-    at
+    Ok(at)
 }

@@ -2,10 +2,10 @@
 -- Assumes nothing.
 use mathlib.Core.Path.{refl, ◌∙◌}
 use native.Mathlib.Omega.{arith}
-use Rattle.pattern.proofs.Selectors.{seeks_absent, seeks_found, sought_missing, sought_drawn, nears_sought, nears_nested, near_sought, near_nested}
-use Rattle.pattern.proofs.Passes.{passes_none, passes_all, passes_next, passes_found}
+use Rattle.named.proofs.Storing.{handed}
+use Rattle.pattern.proofs.Selectors.{nears_absent, nears_nested, nears_found, nears_full, near_missing, near_nested, near_found, near_full}
+use Rattle.pattern.proofs.Passes.{passes_none, passes_all, passes_next, passes_found, passes_full}
 use Rattle.pattern.proofs.Records.{finds_row, row_count, row_lies, row_part, row_most}
-use borrow.Author.Rules.{rules}
 use Rattle.pattern.proofs.get_among.Goals as goal
 
 pub field_at-n-requires : goal.field_at-n-requires
@@ -21,16 +21,26 @@ pub get_single-requires : goal.get_single-requires
 get_single-requires c =
     (row_part c.requires.stands _ _ _ c.requires.mark_is c.field_at-n.ensures c.loop-k-test.true refl _ c.field_at-part.ensures).0
 
-pub returns-in_err-inner : goal.returns-in_err-inner
-returns-in_err-inner c = nears_nested _ c.from_residual.ensures.0 (near_nested c.get_single.ensures c.in_err-inner.was ∙ c.loop-k.invariant.table)
+pub returns-in_err-get_single : goal.returns-in_err-get_single
+returns-in_err-get_single c =
+    rw (handed c.from_residual.ensures.1)
+    (nears_full (passes_full c.loop-k.invariant _ c.loop-k-test.true (omega arith) (near_full (rw c.field_at-part.ensures at c.in_err-get_single.ensures))))
 
-pub returns-in-Some : goal.returns-in-Some
-returns-in-Some c =
-    nears_sought (seeks_found (passes_found c.loop-k.invariant _ (omega arith) (omega arith) (sought_drawn (near_sought (rw c.field_at-part.ensures at c.get_single.ensures) c.in_ok-inner.was) c.in-Some.is) c.along.ensures))
+pub returns-in-Nested : goal.returns-in-Nested
+returns-in-Nested c = nears_nested (near_nested c.in_ok-get_single.ensures c.in-Nested.is ∙ c.loop-k.invariant.table)
+
+pub returns-in_err-node-in-Found : goal.returns-in_err-node-in-Found
+returns-in_err-node-in-Found c =
+    rw (handed c.from_residual-in_err-node-in-Found.ensures.1)
+    (nears_full (passes_found c.loop-k.invariant _ c.loop-k-test.true (omega arith) (near_found (rw c.field_at-part.ensures at c.in_ok-get_single.ensures) c.in-Found.is) c.in_err-node-in-Found.ensures))
+
+pub returns-in-Found : goal.returns-in-Found
+returns-in-Found c =
+    nears_found (passes_found c.loop-k.invariant _ c.loop-k-test.true (omega arith) (near_found (rw c.field_at-part.ensures at c.in_ok-get_single.ensures) c.in-Found.is) c.in_ok-node-in-Found.ensures)
 
 pub loop-k-preserved : goal.loop-k-preserved
 loop-k-preserved c =
-    passes_next c.loop-k.invariant _ (omega arith) (omega arith) _ (omega arith) (sought_missing (near_sought (rw c.field_at-part.ensures at c.get_single.ensures) c.in_ok-inner.was) (search rules))
+    passes_next c.loop-k.invariant _ (omega arith) (omega arith) _ (omega arith) (near_missing (rw c.field_at-part.ensures at c.in_ok-get_single.ensures) c.in-Missing.is)
 
 pub returns : goal.returns
-returns c = nears_sought (seeks_absent (passes_all c.loop-k.invariant (omega arith)))
+returns c = nears_absent (passes_all c.loop-k.invariant (omega arith))

@@ -1,6 +1,7 @@
 -- `tree_fold` meets its contract: the size is a power, or what is left of it is folded first.
 -- Assumes nothing.
 use native.Mathlib.Omega.{arith}
+use Rattle.named.proofs.Storing.{then, halt, handed}
 use lib.ListN.{length}
 use Rattle.builtins.proofs.Folds.{top_below, top_taken, tree_one, tree_more}
 use borrow.Author.Rules.{rules}
@@ -17,15 +18,19 @@ overflow_sub-rest t c = omega (arith, top_taken c.args.n c.top-most.result (sear
 
 pub returns-then-rest-eq0 : goal.returns-then-rest-eq0
 returns-then-rest-eq0 t c =
-    tree_one _ _ _ _ (search rules) c.top-most.ensures (top_taken c.args.n c.top-most.result (search rules) (search rules) (search rules)) (search rules)
+    tree_one _ _ _ _ _ (search rules) c.top-most.ensures (top_taken c.args.n c.top-most.result (search rules) (search rules) (search rules)) _ (search rules)
 
-pub tree_fold-left-requires : goal.tree_fold-left-requires
-tree_fold-left-requires t c =
+pub tree_fold-requires : goal.tree_fold-requires
+tree_fold-requires t c =
     let h = top_taken c.args.n c.top-most.result (search rules) (search rules) (search rules) in
     (omega arith, (omega (arith, c.if-rest-eq0.false), (omega arith, omega arith)))
 
+pub returns-in_err-left : goal.returns-in_err-left
+returns-in_err-left t c =
+    rw (tree_more _ _ _ _ _ (search rules) c.top-most.ensures (top_taken c.args.n c.top-most.result (search rules) (search rules) (search rules)) (omega (arith, c.if-rest-eq0.false)), handed c.from_residual.ensures.1)
+    (halt _ c.in_err-left.ensures)
+
 pub returns : goal.returns
 returns t c =
-    tree_more _ _ _ _ (search rules) c.top-most.ensures
-    (top_taken c.args.n c.top-most.result (search rules) (search rules) (search rules))
-    (omega (arith, c.if-rest-eq0.false)) c.tree_fold-left.ensures c.f_array_fold.ensures
+    rw (tree_more _ _ _ _ _ (search rules) c.top-most.ensures (top_taken c.args.n c.top-most.result (search rules) (search rules) (search rules)) (omega (arith, c.if-rest-eq0.false)))
+    (then _ c.in_ok-left.ensures c.f_array_fold.ensures)

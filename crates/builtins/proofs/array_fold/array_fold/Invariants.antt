@@ -4,4 +4,4 @@ use Rattle.builtins.proofs.Folds.{Going}
 use Rattle.builtins.proofs.array_fold.array_fold.Given as goal
 
 abbrev pub invariant-loop-k : goal.invariant-loop-k
-invariant-loop-k l = Going l.place l.size l.f l.most l.initial.nodes l.initial.at l.nodes l.powers l.at l.k
+invariant-loop-k l = Going l.place l.size l.f l.most l.initial.nodes l.nodes l.powers l.k

@@ -8,7 +8,7 @@ use Rattle.laws.specs.Table.{free}
 use Rattle.book.specs.Format.{PATTERN, EXPRESSION, EC, EW, EV, EB, SA, SE, EM, EH, CK, FN}
 use Rattle.book.proofs.Standing.{stands_begins, head_lies, function_mark}
 use lib.Seq.{length-take-le}
-use Rattle.named.proofs.Pens.{then, halt, handed, closes}
+use Rattle.named.proofs.Storing.{then, halt, handed}
 use Rattle.scope_bindings.specs.Scope.{of_function}
 use Rattle.scope_bindings.proofs.Scopes.{scope_count, root_stands}
 use Rattle.parts.proofs.Marks.{lies, most, at_mark}
@@ -22,7 +22,7 @@ use borrow.Author.Rules.{rules}
 use Rattle.compile.proofs.cycle.+lowering.Goals as goal
 
 pub arm-returns-then-scope-ge256 : goal.arm-returns-then-scope-ge256
-arm-returns-then-scope-ge256 t c = arm_full _ _ _ _ _ _ _ c.if-scope-ge256.true
+arm-returns-then-scope-ge256 t c = arm_full _ _ _ _ _ _ c.if-scope-ge256.true
 
 pub arm-expression-requires : goal.arm-expression-requires
 arm-expression-requires t c =
@@ -36,29 +36,29 @@ pub begin-mark_at-requires : goal.begin-mark_at-requires
 begin-mark_at-requires t c = stands_begins c.requires.0
 
 pub begin-field_at-e-requires : goal.begin-field_at-e-requires
-begin-field_at-e-requires t c = head_lies c.requires.0 SE (does_mark c.requires.0 (λ z. c.if-mark_at-ne-SA.true (c.mark_at.ensures ∙ z))) 0 tt
+begin-field_at-e-requires t c = head_lies c.requires.0 SA (sym c.mark_at.ensures ∙ c.if-mark_at-eq-SA.true) 1 tt
 
 pub begin-expression-requires : goal.begin-expression-requires
 begin-expression-requires t c =
-    ((omega (arith, c.decreases, does_below c.requires.0 (λ z. c.if-mark_at-ne-SA.true (c.mark_at.ensures ∙ z)) c.field_at-e.ensures)), (does_stands c.requires.0 (λ z. c.if-mark_at-ne-SA.true (c.mark_at.ensures ∙ z)) c.field_at-e.ensures, c.requires.1))
+    ((omega (arith, c.decreases, value_below c.requires.0 (sym c.mark_at.ensures ∙ c.if-mark_at-eq-SA.true) c.field_at-e.ensures)), (value_stands c.requires.0 (sym c.mark_at.ensures ∙ c.if-mark_at-eq-SA.true) c.field_at-e.ensures, c.requires.1))
 
-pub begin-returns-then-mark_at-ne-SA : goal.begin-returns-then-mark_at-ne-SA
-begin-returns-then-mark_at-ne-SA t c = begin_does _ _ _ _ _ _ (λ z. c.if-mark_at-ne-SA.true (c.mark_at.ensures ∙ z)) c.field_at-e.ensures c.expression.ensures
+pub begin-returns-in_err-value : goal.begin-returns-in_err-value
+begin-returns-in_err-value t c =
+    rw (handed c.from_residual.ensures.1) (begin_halt _ _ _ _ _ _ (sym c.mark_at.ensures ∙ c.if-mark_at-eq-SA.true) c.field_at-e.ensures c.in_err-value.ensures)
 
-pub begin-field_at-e-requires-2 : goal.begin-field_at-e-requires-2
-begin-field_at-e-requires-2 t c = head_lies c.requires.0 SA (sym c.mark_at.ensures ∙ c.if-mark_at-ne-SA.false) 1 tt
+pub begin-returns-in_ok-value : goal.begin-returns-in_ok-value
+begin-returns-in_ok-value t c =
+    begin_assign _ _ _ _ _ _ _ (sym c.mark_at.ensures ∙ c.if-mark_at-eq-SA.true) c.field_at-e.ensures c.in_ok-value.ensures (scope_count _ _ _) c.bind_value.ensures
 
-pub begin-expression-requires-2 : goal.begin-expression-requires-2
-begin-expression-requires-2 t c =
-    ((omega (arith, c.decreases, value_below c.requires.0 (sym c.mark_at.ensures ∙ c.if-mark_at-ne-SA.false) c.field_at-e-2.ensures)), (value_stands c.requires.0 (sym c.mark_at.ensures ∙ c.if-mark_at-ne-SA.false) c.field_at-e-2.ensures, c.requires.1))
+pub begin-field_at-e-requires-else-mark_at-eq-SA : goal.begin-field_at-e-requires-else-mark_at-eq-SA
+begin-field_at-e-requires-else-mark_at-eq-SA t c = head_lies c.requires.0 SE (does_mark c.requires.0 (λ z. c.if-mark_at-eq-SA.false (c.mark_at.ensures ∙ z))) 0 tt
 
-pub begin-returns : goal.begin-returns
-begin-returns t c =
-    begin_assign _ _ _ _ _ _ _ (sym c.mark_at.ensures ∙ c.if-mark_at-ne-SA.false) c.field_at-e-2.ensures c.in_ok-a.ensures (scope_count _ _ _) c.bind_value.ensures
+pub begin-expression-requires-else-mark_at-eq-SA : goal.begin-expression-requires-else-mark_at-eq-SA
+begin-expression-requires-else-mark_at-eq-SA t c =
+    ((omega (arith, c.decreases, does_below c.requires.0 (λ z. c.if-mark_at-eq-SA.false (c.mark_at.ensures ∙ z)) c.field_at-e-else-mark_at-eq-SA.ensures)), (does_stands c.requires.0 (λ z. c.if-mark_at-eq-SA.false (c.mark_at.ensures ∙ z)) c.field_at-e-else-mark_at-eq-SA.ensures, c.requires.1))
 
-pub begin-returns-in_err-a : goal.begin-returns-in_err-a
-begin-returns-in_err-a t c =
-    rw (handed c.from_residual.ensures.1) (begin_halt _ _ _ _ _ _ (sym c.mark_at.ensures ∙ c.if-mark_at-ne-SA.false) c.field_at-e-2.ensures c.in_err-a.ensures)
+pub begin-returns-else-mark_at-eq-SA : goal.begin-returns-else-mark_at-eq-SA
+begin-returns-else-mark_at-eq-SA t c = begin_does _ _ _ _ _ _ (λ z. c.if-mark_at-eq-SA.false (c.mark_at.ensures ∙ z)) c.field_at-e-else-mark_at-eq-SA.ensures c.expression-else-mark_at-eq-SA.ensures
 
 pub block-field_at-count-requires : goal.block-field_at-count-requires
 block-field_at-count-requires t c = lies c.requires.0 1 tt
@@ -75,18 +75,21 @@ block-enter-own-requires t c =
     record { stands = stmt_stands c.requires.0 c.loop-k.k (omega (arith, c.loop-k-test.true, c.field_at-count.ensures)) c.field_at-s.ensures; scope_stands = c.loop-k.invariant.1 }
 
 pub block-loop-k-init : goal.block-loop-k-init
-block-loop-k-init t c = (search rules, c.requires.1, begun_start _ _ _ _ _ _ _ _ _ _ refl)
+block-loop-k-init t c = (search rules, c.requires.1, begun_start _ _ _ _ _ _ _ _ _ refl)
 
 pub block-bounds-begun-k : goal.block-bounds-begun-k
 block-bounds-begun-k t c = omega (arith, c.loop-k-test.true, most c.requires.0 1 tt refl, c.field_at-count.ensures, c.loop-k.invariant.0)
 
-pub block-returns-in_err-a : goal.block-returns-in_err-a
-block-returns-in_err-a t c =
-    rw (handed c.from_residual.ensures.1, block_is _ _ _ _ _ c.requires.0, ← c.field_at-count.ensures) (begun_halt c.loop-k.invariant.2 c.field_at-s.ensures (stmt_stands c.requires.0 c.loop-k.k (omega (arith, c.loop-k-test.true, c.field_at-count.ensures)) c.field_at-s.ensures) c.loop-k-test.true c.in_err-a.ensures)
+pub block-returns-in_err-begun : goal.block-returns-in_err-begun
+block-returns-in_err-begun t c =
+    rw (handed c.from_residual.ensures.1, block_is _ _ _ _ _ c.requires.0, ← c.field_at-count.ensures) (begun_halt c.loop-k.invariant.2 c.field_at-s.ensures (stmt_stands c.requires.0 c.loop-k.k (omega (arith, c.loop-k-test.true, c.field_at-count.ensures)) c.field_at-s.ensures) c.loop-k-test.true c.in_err-begun.ensures)
 
 pub block-loop-k-preserved : goal.block-loop-k-preserved
 block-loop-k-preserved t c =
-    (simp length-set c.loop-k.invariant.0, c.enter-own.ensures.stands, begun_next c.loop-k.invariant.2 _ c.field_at-s.ensures (stmt_stands c.requires.0 c.loop-k.k (omega (arith, c.loop-k-test.true, c.field_at-count.ensures)) c.field_at-s.ensures) c.loop-k-test.true (omega (arith, c.loop-k-test.true, most c.requires.0 1 tt refl, c.field_at-count.ensures, c.loop-k.invariant.0)) c.in_ok-a.ensures (enters_is _ c.enter-own.ensures c.in_ok-a.ensures))
+    (simp length-set c.loop-k.invariant.0, c.enter-own.ensures.stands, begun_next c.loop-k.invariant.2 _ c.field_at-s.ensures (stmt_stands c.requires.0 c.loop-k.k (omega (arith, c.loop-k-test.true, c.field_at-count.ensures)) c.field_at-s.ensures) c.loop-k-test.true (omega (arith, c.loop-k-test.true, most c.requires.0 1 tt refl, c.field_at-count.ensures, c.loop-k.invariant.0)) c.in_ok-begun.ensures (enters_is _ c.enter-own.ensures c.in_ok-begun.ensures))
+
+pub block-end-requires : goal.block-end-requires
+block-end-requires t c = ((omega (arith, c.decreases)), (c.requires.0, c.loop-k.invariant.1))
 
 pub block-returns-in_err-last : goal.block-returns-in_err-last
 block-returns-in_err-last t c =
@@ -95,8 +98,8 @@ block-returns-in_err-last t c =
 pub block-slice_bounds-begun-end : goal.block-slice_bounds-begun-end
 block-slice_bounds-begun-end t c = omega (arith, most c.requires.0 1 tt refl, c.field_at-count.ensures, c.loop-k.invariant.0)
 
-pub block-slice_bounds-values-end : goal.block-slice_bounds-values-end
-block-slice_bounds-values-end t c =
+pub block-slice_bounds-close_all-end : goal.block-slice_bounds-close_all-end
+block-slice_bounds-close_all-end t c =
     sym (length-take-le _ _ (omega (arith, most c.requires.0 1 tt refl, c.field_at-count.ensures, c.loop-k.invariant.0)))
 
 pub block-close_all-requires : goal.block-close_all-requires
@@ -109,25 +112,34 @@ block-returns t c =
 
 pub body-plain_body-requires : goal.body-plain_body-requires
 body-plain_body-requires t c =
-    record { marked = c.requires.0; is_call_is = c.requires.1; is_functional_is = sym c.is_functional.ensures ∙ c.if-not-is_functional.true }
+    record { marked = c.requires.0; is_call_is = c.requires.1; is_functional_is = sym c.is_functional.ensures ∙ c.if-is_functional.false }
 
-pub body-returns-then-not-is_functional : goal.body-returns-then-not-is_functional
-body-returns-then-not-is_functional t c = body_plain _ _ _ _ _ (sym c.is_functional.ensures ∙ c.if-not-is_functional.true) c.plain_body.ensures
+pub body-returns-else-is_functional : goal.body-returns-else-is_functional
+body-returns-else-is_functional t c = body_plain _ _ _ _ _ (sym c.is_functional.ensures ∙ c.if-is_functional.false) c.plain_body.ensures
 
 pub body-field_at-f-requires : goal.body-field_at-f-requires
-body-field_at-f-requires t c = functional_lies c.requires.0 (sym c.is_functional.ensures ∙ c.if-not-is_functional.false)
+body-field_at-f-requires t c = functional_lies c.requires.0 (sym c.is_functional.ensures ∙ c.if-is_functional.true)
 
 pub body-function-requires : goal.body-function-requires
 body-function-requires t c =
-    ((omega (arith, c.decreases, functional_below c.requires.0 (sym c.is_functional.ensures ∙ c.if-not-is_functional.false) c.field_at-f.ensures)), functional_stands c.requires.0 (sym c.is_functional.ensures ∙ c.if-not-is_functional.false) c.field_at-f.ensures)
+    ((omega (arith, c.decreases, functional_below c.requires.0 (sym c.is_functional.ensures ∙ c.if-is_functional.true) c.field_at-f.ensures)), functional_stands c.requires.0 (sym c.is_functional.ensures ∙ c.if-is_functional.true) c.field_at-f.ensures)
 
-pub body-returns : goal.body-returns
-body-returns t c =
-    body_fold _ _ _ _ _ (sym c.is_functional.ensures ∙ c.if-not-is_functional.false) c.field_at-f.ensures c.in_ok-g.ensures c.fold_body.ensures
+pub body-fold_body-requires : goal.body-fold_body-requires
+body-fold_body-requires t c = c.requires.0
+
+pub body-returns-in_ok-g : goal.body-returns-in_ok-g
+body-returns-in_ok-g t c =
+    body_fold _ _ _ _ _ (sym c.is_functional.ensures ∙ c.if-is_functional.true) c.field_at-f.ensures c.in_ok-g.ensures c.fold_body.ensures
 
 pub body-returns-in_err-g : goal.body-returns-in_err-g
 body-returns-in_err-g t c =
-    rw (handed c.from_residual.ensures.1) (body_halt _ _ _ _ _ (sym c.is_functional.ensures ∙ c.if-not-is_functional.false) c.field_at-f.ensures c.in_err-g.ensures)
+    rw (handed c.from_residual.ensures.1) (body_halt _ _ _ _ _ (sym c.is_functional.ensures ∙ c.if-is_functional.true) c.field_at-f.ensures c.in_err-g.ensures)
+
+pub call-body-requires : goal.call-body-requires
+call-body-requires t c = ((omega (arith, c.decreases)), (c.requires.0, c.requires.1))
+
+pub call-finish-requires : goal.call-finish-requires
+call-finish-requires t c = c.requires.0
 
 pub call-returns : goal.call-returns
 unfolding call_run
@@ -162,8 +174,14 @@ complete-call-requires t c = ((omega (arith, c.decreases)), (c.requires.0, sym c
 pub complete-returns-then-is_call : goal.complete-returns-then-is_call
 complete-returns-then-is_call t c = complete_call _ _ _ _ _ _ _ c.if-m-eq-EH.false (sym c.is_call.ensures ∙ c.if-is_call.true) c.call.ensures
 
-pub complete-returns : goal.complete-returns
-complete-returns t c = complete_wrap _ _ _ _ _ _ _ c.if-m-eq-EH.false (sym c.is_call.ensures ∙ c.if-is_call.false) c.wrap.ensures
+pub complete-wrap-requires : goal.complete-wrap-requires
+complete-wrap-requires t c = c.requires.0
+
+pub complete-returns-else-is_call : goal.complete-returns-else-is_call
+complete-returns-else-is_call t c = complete_wrap _ _ _ _ _ _ _ c.if-m-eq-EH.false (sym c.is_call.ensures ∙ c.if-is_call.false) c.wrap.ensures
+
+pub element-overflow_sub-j : goal.element-overflow_sub-j
+element-overflow_sub-j t c = c.requires.1.1.after c.if-m-eq-EH.true
 
 pub element-arm_at-a-requires : goal.element-arm_at-a-requires
 element-arm_at-a-requires t c = (c.requires.1.1.before c.if-m-eq-EH.true, lies_after (c.requires.1.1.after c.if-m-eq-EH.true) c.requires.1.1.lies)
@@ -176,15 +194,18 @@ pub element-returns-then-m-eq-EH : goal.element-returns-then-m-eq-EH
 element-returns-then-m-eq-EH t c =
     element_arm _ _ _ _ _ _ _ _ _ c.if-m-eq-EH.true (c.requires.1.1.after c.if-m-eq-EH.true) c.arm_at-a.ensures.0 c.arm_at-a.ensures.1 c.arm.ensures
 
+pub element-field_at-e-requires : goal.element-field_at-e-requires
+element-field_at-e-requires t c = c.requires.1.1.lies
+
 pub element-expression-requires : goal.element-expression-requires
 element-expression-requires t c =
     ((omega (arith, c.decreases, c.requires.1.1.below, c.field_at-e.ensures)), (rw c.field_at-e.ensures c.requires.1.1.stands, c.requires.1.0))
 
-pub element-returns : goal.element-returns
-element-returns t c = element_plain _ _ _ _ _ _ _ _ c.if-m-eq-EH.false c.field_at-e.ensures c.expression.ensures
+pub element-returns-else-m-eq-EH : goal.element-returns-else-m-eq-EH
+element-returns-else-m-eq-EH t c = element_plain _ _ _ _ _ _ _ _ c.if-m-eq-EH.false c.field_at-e.ensures c.expression.ensures
 
 pub elements-loop-k-init : goal.elements-loop-k-init
-elements-loop-k-init t c = suffices_start _ _ _ _ _ _ _ _ _ _ _ _ _ refl
+elements-loop-k-init t c = suffices_start _ _ _ _ _ _ _ _ _ _ _ _ refl
 
 pub elements-overflow_mul-j : goal.elements-overflow_mul-j
 elements-overflow_mul-j t c =
@@ -198,13 +219,13 @@ pub elements-element-requires : goal.elements-element-requires
 elements-element-requires t c =
     ((omega (arith, c.decreases)), (c.requires.0, (c.requires.1.0, in_span c.requires.0 c.requires.1.1.0 c.requires.1.1.1.0 _ (rw c.requires.1.1.1.1 at c.loop-k-test.true))))
 
-pub elements-returns-in_err-a : goal.elements-returns-in_err-a
-elements-returns-in_err-a t c =
-    rw (handed c.from_residual.ensures.1) (suffices_halt c.loop-k.invariant _ (rw c.requires.1.1.1.1 at c.loop-k-test.true) c.in_err-a.ensures)
+pub elements-returns-in_err-root : goal.elements-returns-in_err-root
+elements-returns-in_err-root t c =
+    rw (handed c.from_residual.ensures.1) (suffices_halt c.loop-k.invariant _ (rw c.requires.1.1.1.1 at c.loop-k-test.true) c.in_err-root.ensures)
 
 pub elements-loop-k-preserved : goal.elements-loop-k-preserved
 elements-loop-k-preserved t c =
-    suffices_next c.loop-k.invariant (rw c.requires.1.1.1.1 at c.loop-k-test.true) (omega arith) c.in_ok-a.ensures
+    suffices_next c.loop-k.invariant (rw c.requires.1.1.1.1 at c.loop-k-test.true) (omega arith) c.in_ok-root.ensures
 
 pub elements-returns : goal.elements-returns
 elements-returns t c = suffices_done c.loop-k.invariant (omega (arith, c.requires.1.1.1.1)) (omega arith)
@@ -219,15 +240,14 @@ pub end-field_at-e-requires : goal.end-field_at-e-requires
 end-field_at-e-requires t c = end_lies c.requires.0 c.field_at-n.ensures
 
 pub end-returns-then-e : goal.end-returns-then-e
-end-returns-then-e t c =
-    rw (← c.field_at-n.ensures) (end_unit _ _ _ _ _ _ c.field_at-e.ensures c.if-e.true (closes c.pen_at.ensures c.put.ensures c.answer_of.ensures))
+end-returns-then-e t c = rw (← c.field_at-n.ensures) (end_unit _ _ _ _ _ _ c.field_at-e.ensures c.if-e.true c.put.ensures)
 
 pub end-expression-requires : goal.end-expression-requires
 end-expression-requires t c =
     ((omega (arith, c.decreases, end_less c.requires.0 c.field_at-n.ensures c.field_at-e.ensures c.if-e.false)), (end_is c.requires.0 c.field_at-n.ensures c.field_at-e.ensures c.if-e.false, c.requires.1))
 
-pub end-returns : goal.end-returns
-end-returns t c = rw (← c.field_at-n.ensures) (end_expr _ _ _ _ _ _ c.field_at-e.ensures c.if-e.false c.expression.ensures)
+pub end-returns-else-e : goal.end-returns-else-e
+end-returns-else-e t c = rw (← c.field_at-n.ensures) (end_expr _ _ _ _ _ _ c.field_at-e.ensures c.if-e.false c.expression.ensures)
 
 pub expression-mark_at-m-requires : goal.expression-mark_at-m-requires
 expression-mark_at-m-requires t c = stands_begins c.requires.0
@@ -267,9 +287,24 @@ expression-returns-in-12 t c = rw (witness_is _ _ _ _ _ (marked c.requires.0 c.m
 pub expression-returns-in-13 : goal.expression-returns-in-13
 expression-returns-in-13 t c = rw (variable_is _ _ _ _ _ (marked c.requires.0 c.mark_at-m.ensures EV c.in-13.is)) c.variable.ensures
 
+pub expression-returns-in-19 : goal.expression-returns-in-19
+expression-returns-in-19 t c = c.block.ensures
+
+pub expression-returns-in-22 : goal.expression-returns-in-22
+expression-returns-in-22 t c = c.two_arms.ensures
+
 pub expression-returns-in-31 : goal.expression-returns-in-31
 expression-returns-in-31 t c =
     rw (cast_is _ _ _ _ _ (marked c.requires.0 c.mark_at-m.ensures CK c.in-31.is), ← c.field_at-e.ensures) c.expression.ensures
+
+pub expression-returns-in_default : goal.expression-returns-in_default
+expression-returns-in_default t c = c.from_row.ensures
+
+pub from_row-row-requires : goal.from_row-row-requires
+from_row-row-requires t c = ((omega (arith, c.decreases)), (c.requires.0, (c.requires.1.0, c.requires.1.1)))
+
+pub from_row-complete-requires : goal.from_row-complete-requires
+from_row-complete-requires t c = ((omega (arith, c.decreases)), (c.requires.0, c.requires.1.0))
 
 pub from_row-returns : goal.from_row-returns
 from_row-returns t c = rw (row_is _ _ _ _ _ _ c.requires.1.1 c.requires.0) (then _ c.in_ok-a.ensures c.complete.ensures)
@@ -290,11 +325,14 @@ function-expression-requires t c =
 pub function-returns : goal.function-returns
 function-returns t c = fn_done c.requires c.field_at-n.ensures c.field_at-e.ensures _ c.from_root-scope.ensures c.expression.ensures
 
-pub row-returns : goal.row-returns
-row-returns t c = row_then _ _ _ _ _ _ c.span_of-span.ensures c.in_ok-n.ensures c.gather.ensures
+pub row-span_of-span-requires : goal.row-span_of-span-requires
+row-span_of-span-requires t c = c.requires.0
 
-pub row-returns-in_err-n : goal.row-returns-in_err-n
-row-returns-in_err-n t c = rw (handed c.from_residual.ensures.1) (row_halt _ _ _ _ _ _ c.span_of-span.ensures c.in_err-n.ensures)
+pub row-returns : goal.row-returns
+row-returns t c = row_then _ _ _ _ _ _ c.span_of-span.ensures c.in_ok-elements.ensures c.gather.ensures
+
+pub row-returns-in_err-elements : goal.row-returns-in_err-elements
+row-returns-in_err-elements t c = rw (handed c.from_residual.ensures.1) (row_halt _ _ _ _ _ _ c.span_of-span.ensures c.in_err-elements.ensures)
 
 pub two_arms-arm_at-left-requires : goal.two_arms-arm_at-left-requires
 two_arms-arm_at-left-requires t c = (lies c.requires.0 2 tt, lies c.requires.0 3 tt)

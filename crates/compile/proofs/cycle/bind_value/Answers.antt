@@ -1,11 +1,10 @@
 -- `bind_value` meets its contract: one binding too many, or the pair.
 -- Assumes nothing.
-use Rattle.named.proofs.Pens.{closes}
 use Rattle.compile.proofs.Steps.{at_full, at_fits}
 use Rattle.compile.proofs.cycle.bind_value.Goals as goal
 
 pub returns-then-live-ge256 : goal.returns-then-live-ge256
-returns-then-live-ge256 c = at_full _ _ _ _ _ c.if-live-ge256.true
+returns-then-live-ge256 c = at_full _ _ _ _ c.if-live-ge256.true
 
 pub returns : goal.returns
-returns c = at_fits _ _ c.if-live-ge256.false (closes c.pen_at.ensures c.paired.ensures c.answer_of.ensures)
+returns c = at_fits _ _ c.if-live-ge256.false c.paired.ensures

@@ -4,4 +4,4 @@ use lib.ListN.{length}
 use Rattle.named.proofs.build.+join.Given as goal
 
 abbrev pub decreases-join : goal.decreases-join
-decreases-join l = length l.roots.now
+decreases-join l = length l.row.now

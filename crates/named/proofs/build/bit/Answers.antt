@@ -1,13 +1,14 @@
 -- `bit` meets its contract: unit, and then the side that the bit says.
 -- Assumes nothing.
-use Rattle.named.proofs.Pens.{draw_then}
-use Rattle.named.proofs.Builds.{bit_true, bit_false}
+use Rattle.named.proofs.Storing.{then, handed}
+use Rattle.named.proofs.Builds.{bit_is, bit_not, bit_halts}
 use Rattle.named.proofs.build.bit.Goals as goal
-use Rattle.named.proofs.build.bit.Goals.{then-value, else-value}
 
-pub returns : goal.returns
-returns c =
-    elim c.if-value.branch [
-      | then-value w ↦ bit_true w.if-value.true (draw_then _ c.put-unit.ensures (rw w.kind-is at c.put.ensures))
-      | else-value w ↦ bit_false w.if-value.false (draw_then _ c.put-unit.ensures (rw w.kind-is at c.put.ensures))
-    ]
+pub returns-in_err-unit : goal.returns-in_err-unit
+returns-in_err-unit c = rw (handed c.from_residual.ensures.1) (bit_halts _ _ c.in_err-unit.ensures)
+
+pub returns-then-value : goal.returns-then-value
+returns-then-value c = rw (bit_is _ c.if-value.true) (then _ c.in_ok-unit.ensures c.put-then-value.ensures)
+
+pub returns-else-value : goal.returns-else-value
+returns-else-value c = rw (bit_not _ c.if-value.false) (then _ c.in_ok-unit.ensures c.put-else-value.ensures)

@@ -3,7 +3,6 @@
 use borrow.Author.Tests.{eq-eqb, ne_eqb}
 use Rattle.book.proofs.Standing.{stands_begins}
 use Rattle.parts.specs.Parts.{close_run}
-use Rattle.named.proofs.Pens.{closes}
 use Rattle.parts.proofs.part.close.Goals as goal
 
 pub mark_at-requires : goal.mark_at-requires
@@ -12,8 +11,8 @@ mark_at-requires c = stands_begins c.requires
 
 pub returns-then-mark_at-eq-SA : goal.returns-then-mark_at-eq-SA
 unfolding close_run
-returns-then-mark_at-eq-SA c = rw (← c.mark_at.ensures, eq-eqb _ _ c.if-mark_at-eq-SA.true) (search closes)
+returns-then-mark_at-eq-SA c = rw (← c.mark_at.ensures, eq-eqb _ _ c.if-mark_at-eq-SA.true) c.put.ensures
 
-pub returns : goal.returns
+pub returns-else-mark_at-eq-SA : goal.returns-else-mark_at-eq-SA
 unfolding close_run
-returns c = rw (← c.mark_at.ensures, ne_eqb _ _ c.if-mark_at-eq-SA.false) (search closes)
+returns-else-mark_at-eq-SA c = rw (← c.mark_at.ensures, ne_eqb _ _ c.if-mark_at-eq-SA.false) c.followed.ensures

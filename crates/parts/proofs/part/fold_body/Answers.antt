@@ -5,8 +5,8 @@ use Rattle.array.specs.Split.{top_of}
 use Rattle.builtins.specs.ArrayFold as arrays
 use Rattle.recipes.specs.ListFold as lists
 use Rattle.recipes.specs.ForWhile as loops
-use Rattle.named.proofs.Pens.{done_pure}
-use Rattle.parts.proofs.Ends.{closes_at}
+use Rattle.named.proofs.Storing.{done_pure}
+use Rattle.parts.proofs.Ends.{done_at}
 use Rattle.laws.specs.Table.{rest}
 use Rattle.book.specs.Format.{CQ, CY, CW}
 use Rattle.parts.specs.Parts.{foldings, fold_run}
@@ -44,19 +44,19 @@ for_while-requires c =
 pub returns-in-33 : goal.returns-in-33
 unfolding fold_run
 returns-in-33 c =
-    rw c.in-33.is (closes_at (λ w. lists.list_fold c.args.r w c.args.body) c.field_at-bound.ensures c.pen_at.ensures c.list_fold.ensures c.answer_of.ensures)
+    rw c.in-33.is (done_at (λ w. lists.list_fold c.args.r w c.args.body) c.field_at-bound.ensures c.list_fold.ensures)
 
 pub returns-in-34 : goal.returns-in-34
 unfolding fold_run
 returns-in-34 c =
-    rw c.in-34.is (closes_at (λ w. arrays.array_fold c.args.r w c.args.body) c.field_at-size.ensures c.pen_at-in-34.ensures c.array_fold.ensures c.answer_of-in-34.ensures)
+    rw c.in-34.is (done_at (λ w. arrays.array_fold c.args.r w c.args.body) c.field_at-size.ensures c.array_fold.ensures)
 
 pub returns-in-35 : goal.returns-in-35
 unfolding fold_run
 returns-in-35 c =
-    rw c.in-35.is (closes_at (λ w. loops.for_while c.args.r (top_of w) c.args.body) c.field_at-width.ensures c.pen_at-in-35.ensures c.for_while.ensures c.answer_of-in-35.ensures)
+    rw c.in-35.is (done_at (λ w. loops.for_while c.args.r (top_of w) c.args.body) c.field_at-width.ensures c.for_while.ensures)
 
 pub returns-in_default : goal.returns-in_default
 unfolding fold_run
 returns-in_default c =
-    rw (rest (foldings c.args.book.now.bytes c.args.book.now.index c.args.r c.args.m c.args.body) c.args.m (pure c.args.body) Unit c.in_default.in_default-own.rest).1 (search done_pure)
+    rw (rest (foldings c.args.book.now.bytes c.args.book.now.index c.args.r c.args.m c.args.body) c.args.m (pure c.args.body) Unit c.in_default.in_default-own.rest).1 (done_pure _ _)

@@ -3,7 +3,6 @@
 use native.Mathlib.Omega.{arith}
 use borrow.Author.Tests.{ne_eqb}
 use Rattle.book.specs.Format.{EL}
-use Rattle.named.proofs.Pens.{closes}
 use Rattle.parts.specs.Parts.{gather_run}
 use Rattle.parts.proofs.Marks.{lies, at_mark}
 use Rattle.parts.proofs.Numbers.{list_bound, list_count}
@@ -24,12 +23,12 @@ pub returns-then-m-eq-EL : goal.returns-then-m-eq-EL
 unfolding gather_run
 returns-then-m-eq-EL c =
     let h = list_bound (at_mark c.requires.marked EL c.if-m-eq-EL.true) _ c.field_at-bound.ensures in
-    rw (c.if-m-eq-EL.true, ← c.field_at-bound.ensures, listed_half _ _ _ h) (search closes)
+    rw (c.if-m-eq-EL.true, ← c.field_at-bound.ensures, listed_half _ _ _ h) c.list.ensures
 
 pub returns : goal.returns
 unfolding gather_run
 returns c =
     elim c.if-m-eq-EH.branch [
-      | then-m-eq-EH w ↦ rw w.if-m-eq-EH.true (closes c.pen_at-pen.ensures (rw w.kind-is at c.join.ensures) c.answer_of-2.ensures)
-      | else-m-eq-EH w ↦ rw (ne_eqb _ _ c.if-m-eq-EL.false, ne_eqb _ _ w.if-m-eq-EH.false) (closes c.pen_at-pen.ensures (rw w.kind-is at c.join.ensures) c.answer_of-2.ensures)
+      | then-m-eq-EH w ↦ rw w.if-m-eq-EH.true (rw w.kind-is at c.join.ensures)
+      | else-m-eq-EH w ↦ rw (ne_eqb _ _ c.if-m-eq-EL.false, ne_eqb _ _ w.if-m-eq-EH.false) (rw w.kind-is at c.join.ensures)
     ]

@@ -6,7 +6,7 @@ use lib.Seq.{length-take-le}
 use Rattle.builtins.specs.RawHash as hashes
 use Rattle.parts.specs.Parts.{plain_run}
 use Rattle.parts.proofs.Marks.{lies, most}
-use Rattle.parts.proofs.Ends.{widths_add, widths_row_lem, closes_at}
+use Rattle.parts.proofs.Ends.{widths_add, widths_row_lem, done_at}
 use Rattle.parts.proofs.part.hash_body.Goals as goal
 
 pub field_at-count-requires : goal.field_at-count-requires
@@ -31,5 +31,4 @@ raw_hash-requires-clause-widths c = record { each = widths_add c.requires c.widt
 pub returns : goal.returns
 unfolding plain_run
 returns c =
-    closes_at (λ ws. hashes.raw_hash c.args.r ws) (widths_row_lem _ _ _ _ c.widths_of.ensures.count c.widths_of.ensures.widths)
-    c.pen_at.ensures c.raw_hash.ensures c.answer_of.ensures
+    done_at (λ ws. hashes.raw_hash c.args.r ws) (widths_row_lem _ _ _ _ c.widths_of.ensures.count c.widths_of.ensures.widths) c.raw_hash.ensures

@@ -2,7 +2,6 @@
 -- Assumes nothing.
 use Rattle.laws.specs.Table.{free}
 use Rattle.book.specs.Format.{CJ, CH}
-use Rattle.named.proofs.Pens.{closes}
 use Rattle.parts.specs.Parts.{plain_run}
 use Rattle.parts.proofs.Marks.{plain_marks, lies, at_mark, plain_rest}
 use Rattle.parts.proofs.part.plain_body.Goals as goal
@@ -18,31 +17,31 @@ hash_body-requires c =
 
 pub returns-in-24 : goal.returns-in-24
 unfolding plain_run
-returns-in-24 c = rw (c.in-24.is, ← c.field_at-jet.ensures) (search closes)
+returns-in-24 c = rw (c.in-24.is, ← c.field_at-jet.ensures) c.put.ensures
 
 pub returns-in-25 : goal.returns-in-25
 unfolding plain_run
-returns-in-25 c = rw c.in-25.is (search closes)
+returns-in-25 c = rw c.in-25.is c.unwrap_left.ensures
 
 pub returns-in-26 : goal.returns-in-26
 unfolding plain_run
-returns-in-26 c = rw c.in-26.is (search closes)
+returns-in-26 c = rw c.in-26.is c.unwrap_right.ensures
 
 pub returns-in-27 : goal.returns-in-27
 unfolding plain_run
-returns-in-27 c = rw c.in-27.is (search closes)
+returns-in-27 c = rw c.in-27.is c.put-in-27.ensures
 
 pub returns-in-28 : goal.returns-in-28
 unfolding plain_run
-returns-in-28 c = rw c.in-28.is (search closes)
+returns-in-28 c = rw c.in-28.is c.put-in-28.ensures
 
 pub returns-in-29 : goal.returns-in-29
 unfolding plain_run
-returns-in-29 c = rw c.in-29.is (search closes)
+returns-in-29 c = rw c.in-29.is c.put-in-29.ensures
 
 pub returns-in-30 : goal.returns-in-30
 unfolding plain_run
-returns-in-30 c = rw c.in-30.is (search closes)
+returns-in-30 c = rw c.in-30.is c.is_none.ensures
 
 pub returns-in_default : goal.returns-in_default
 unfolding plain_run

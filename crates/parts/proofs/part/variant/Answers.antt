@@ -1,7 +1,6 @@
--- `variant` meets its contract: the payload is there already, and its path is drawn around it.
+-- `variant` meets its contract: the payload is there already, and its path is stored around it.
 -- Assumes nothing.
 use native.Mathlib.Omega.{arith}
-use Rattle.named.proofs.Pens.{closes}
 use Rattle.parts.specs.Parts.{wrap_run}
 use Rattle.parts.proofs.Marks.{lies}
 use Rattle.parts.proofs.Numbers.{variant_under, variant_most}
@@ -15,11 +14,11 @@ pub field_at-n-requires : goal.field_at-n-requires
 unfolding wrap_run
 field_at-n-requires c = lies c.requires 2 tt
 
-pub along-whole-requires : goal.along-whole-requires
+pub along-requires : goal.along-requires
 unfolding wrap_run
-along-whole-requires c = (omega (arith, variant_under c.requires), omega (arith, variant_most c.requires))
+along-requires c = (omega (arith, variant_under c.requires), omega (arith, variant_most c.requires))
 
 pub returns : goal.returns
 unfolding wrap_run
 returns c =
-    rw (← c.field_at-n.ensures, ← c.field_at-k.ensures) (closes (record { next = c.pen_at.ensures.next; full = c.pen_at.ensures.full }) c.along-whole.ensures c.answer_of.ensures)
+    rw (← c.field_at-n.ensures, ← c.field_at-k.ensures) c.along.ensures

@@ -1,6 +1,5 @@
 -- `witness` meets its contract: one node.
 -- Assumes nothing.
-use Rattle.named.proofs.Pens.{closes}
 use Rattle.parts.proofs.Marks.{lies}
 use Rattle.parts.proofs.part.witness.Goals as goal
 
@@ -9,6 +8,3 @@ field_at-name-requires c = lies c.requires 1 tt
 
 pub field_at-of-requires : goal.field_at-of-requires
 field_at-of-requires c = lies c.requires 0 tt
-
-pub returns : goal.returns
-returns c = rw (← c.field_at-name.ensures, ← c.field_at-of.ensures) (search closes)

@@ -3,7 +3,8 @@
 use mathlib.Core.Path.{refl}
 use Prim.Native.Nat.{◌-◌, ◌*◌}
 use native.Mathlib.Omega.{arith}
-use Rattle.recipes.proofs.Loops.{width_some, width_few, done_none, done_next, loop_all}
+use Rattle.named.proofs.Storing.{handed}
+use Rattle.recipes.proofs.Loops.{width_some, width_few, done_none, done_next, done_stop, loop_all}
 use borrow.Author.Rules.{rules}
 use Rattle.recipes.proofs.for_while.for_while.Goals as goal
 
@@ -14,11 +15,18 @@ pub filled-stack-requires : goal.filled-stack-requires
 filled-stack-requires c = width_few c.requires.width_is c.requires.width_in_range c.top.ensures
 
 pub loop-k-init : goal.loop-k-init
-loop-k-init c = done_none c.filled-stack.result (2 * c.args.width - 1) (search rules)
+loop-k-init c = done_none _ _ c.filled-stack.result (2 * c.args.width - 1) (search rules)
 
 pub loop-k-preserved : goal.loop-k-preserved
 loop-k-preserved c =
-    done_next c.filled-stack.result (2 * c.args.width - 1) (search rules) _ c.loop-k.k (search rules) (search rules) refl c.loop-k.invariant c.step-at.ensures
+    done_next _ _ c.filled-stack.result (2 * c.args.width - 1) (search rules) _ c.loop-k.k (search rules) (search rules) refl c.loop-k.invariant c.in_ok-at.ensures
+
+pub returns-in_err-at : goal.returns-in_err-at
+returns-in_err-at c =
+    rw (handed c.from_residual.ensures.1)
+    (loop_all _ _ 0 _ _ (omega arith) (rw (c.top.ensures, ← c.requires.width_is) at c.filled-stack.ensures)
+    (done_stop _ _ c.filled-stack.result (2 * c.args.width - 1) (search rules) (c.loop-k.k - 1) (search rules)
+    (done_next _ _ c.filled-stack.result (2 * c.args.width - 1) (search rules) (c.loop-k.k - 1) c.loop-k.k (search rules) (search rules) refl c.loop-k.invariant c.in_err-at.ensures)))
 
 pub returns : goal.returns
-returns c = loop_all _ c.loop-k.k _ _ (omega arith) (rw (c.top.ensures, ← c.requires.width_is) at c.filled-stack.ensures) c.loop-k.invariant
+returns c = loop_all _ _ c.loop-k.k _ _ (omega arith) (rw (c.top.ensures, ← c.requires.width_is) at c.filled-stack.ensures) c.loop-k.invariant

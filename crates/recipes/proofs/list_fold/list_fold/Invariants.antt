@@ -5,4 +5,4 @@ use Rattle.recipes.proofs.Folds.{Doubling}
 use Rattle.recipes.proofs.list_fold.list_fold.Given as goal
 
 abbrev pub invariant-loop : goal.invariant-loop
-invariant-loop l = Doubling l.place l.initial.nodes l.initial.fold l.initial.whole (l.end - 1) l.nodes l.fold l.whole (l.end - l.counter)
+invariant-loop l = Doubling l.place l.initial.nodes (l.end - 1) l.initial.whole l.initial.fold l.nodes (l.end - l.counter) l.whole l.fold

@@ -1,11 +1,11 @@
--- `get` meets its contract: the pen's answer where the name is found, else the refusal.
+-- `get` meets its contract: by what the search finds.
 -- Assumes nothing.
-use Rattle.pattern.proofs.Selectors.{sought_missing, sought_drawn}
-use Rattle.scope_bindings.proofs.Reaches.{fetch_found, fetch_missing}
+use Rattle.named.proofs.Storing.{handed}
+use Rattle.scope_bindings.proofs.Reaches.{fetch_full, fetch_answer}
 use Rattle.scope_bindings.proofs.ScopeBindings.get.Goals as goal
 
-pub returns-in-Some : goal.returns-in-Some
-returns-in-Some c = fetch_found c.pen_at-pen.ensures (sought_drawn c.get_near.ensures c.in-Some.is) c.answer_of.ensures
+pub returns-in_err-found : goal.returns-in_err-found
+returns-in_err-found c = rw (handed c.from_residual.ensures.1) (fetch_full c.in_err-found.ensures)
 
-pub returns-in-None : goal.returns-in-None
-returns-in-None c = fetch_missing (sought_missing c.get_near.ensures c.in-None.is)
+pub returns : goal.returns
+returns c = fetch_answer c.in_ok-found.ensures c.ok_or.ensures.value

@@ -2,23 +2,34 @@
 -- Assumes nothing.
 use mathlib.Core.Path.{refl}
 use native.Mathlib.Omega.{arith}
-use Rattle.pattern.proofs.Selectors.{seeks_absent, seeks_found, sought_missing, sought_drawn, near_sought, near_nested}
-use Rattle.scope_bindings.proofs.Reaches.{misses_whole, misses_all, misses_far, misses_next, misses_found}
+use Rattle.named.proofs.Storing.{handed}
+use Rattle.pattern.proofs.Selectors.{seeks_absent, seeks_found, seeks_full, near_missing, near_nested, near_found, near_full}
+use Rattle.scope_bindings.proofs.Reaches.{misses_whole, misses_all, misses_far, misses_next, misses_found, misses_full}
 use Rattle.scope_bindings.proofs.ScopeBindings.get_near.Goals as goal
 
 pub loop-at-init : goal.loop-at-init
 loop-at-init c = misses_whole _ _ _ _ _ _
 
-pub returns-in-Ok-Some : goal.returns-in-Ok-Some
-returns-in-Ok-Some c =
-    seeks_found (misses_found c.loop-at.invariant _ (omega arith) refl _ (omega arith) (sought_drawn (near_sought c.get_flat.ensures c.in-Ok-Some.is) c.in-Ok-Some.field-0-is) c.reach.ensures)
+pub returns-in_err-get_flat : goal.returns-in_err-get_flat
+returns-in_err-get_flat c =
+    rw (handed c.from_residual.ensures.1)
+    (seeks_full (misses_full c.loop-at.invariant _ (omega arith) refl (near_full c.in_err-get_flat.ensures)))
 
-pub returns-in-Err : goal.returns-in-Err
-returns-in-Err c = misses_far c.loop-at.invariant _ (omega arith) (near_nested c.get_flat.ensures c.in-Err.is) c.get_far.ensures
+pub returns-in-Nested : goal.returns-in-Nested
+returns-in-Nested c = misses_far c.loop-at.invariant _ (omega arith) (near_nested c.in_ok-get_flat.ensures c.in-Nested.is) c.get_far.ensures
+
+pub returns-in_err-node-in-Found : goal.returns-in_err-node-in-Found
+returns-in_err-node-in-Found c =
+    rw (handed c.from_residual-in_err-node-in-Found.ensures.1)
+    (seeks_full (misses_found c.loop-at.invariant _ (omega arith) refl _ (omega arith) (near_found c.in_ok-get_flat.ensures c.in-Found.is) c.in_err-node-in-Found.ensures))
+
+pub returns-in-Found : goal.returns-in-Found
+returns-in-Found c =
+    seeks_found (misses_found c.loop-at.invariant _ (omega arith) refl _ (omega arith) (near_found c.in_ok-get_flat.ensures c.in-Found.is) c.in_ok-node-in-Found.ensures)
 
 pub loop-at-preserved : goal.loop-at-preserved
 loop-at-preserved c =
-    misses_next c.loop-at.invariant _ (omega arith) refl (sought_missing (near_sought c.get_flat.ensures c.in-Ok-None.is) c.in-Ok-None.field-0-is)
+    misses_next c.loop-at.invariant _ (omega arith) refl (near_missing c.in_ok-get_flat.ensures c.in-Missing.is)
 
 pub returns : goal.returns
 returns c = seeks_absent (misses_all c.loop-at.invariant (omega arith))
