@@ -39,12 +39,12 @@ module _ (y : Bool) (b i : List ℕ) (r : ℕ) {s : ScopeBindings} {t : MutBor (
   root = lower y (expr_of b i r) (ignore ∷ [])
 
   -- a result: the nodes and then zeros
-  pub root_made : {a : ℕ} {u : List ℕ} → u ≡ d'.bytes.now → Done d (lower y (expr_of b i r) (scope_of b i s)) (Ok a) d' → Lowered (cut (room (length t.now)) (trace_of y b i r)) (length t.now) (Ok d'.next) u
+  pub root_made : {a n : ℕ} {u : List ℕ} → n ≡ d'.next → u ≡ d'.bytes.now → Done d (lower y (expr_of b i r) (scope_of b i s)) (Ok a) d' → Lowered (cut (room (length t.now)) (trace_of y b i r)) (length t.now) (Ok n) u
   unfolding Fate trace_of
-  root_made {a} e p =
+  root_made {a} o e p =
       let q : Gives (zeros (length t.now)) 0 root a d'.next d'.bytes.now = rw (root_scope_lem b i h, f.bytes, f.next, z) at p.fate in
       let g = clear_gives (length t.now) root q in
-      record { answer = ap Ok g.1 ∙ sym (ap answer_of g.0); table = e ∙ g.2 }
+      record { answer = ap Ok (o ∙ g.1) ∙ sym (ap answer_of g.0); table = e ∙ g.2 }
 
   -- a refusal: zeros throughout
   pub root_refused : {w : Refusal} {u v : List ℕ} → u ≡ d'.bytes.now → Done d (lower y (expr_of b i r) (scope_of b i s)) (Err w) d' → v ≡ zeros (length u) → Lowered (cut (room (length t.now)) (trace_of y b i r)) (length t.now) (Err w) v

@@ -9,7 +9,7 @@ expression-requires c = (c.requires.stands, root_fits c.from_root-scope.ensures)
 
 pub returns-in-Ok : goal.returns-in-Ok
 returns-in-Ok c =
-    rw c.count.ensures (root_made _ _ _ _ _ c.from_root-scope.ensures c.requires.nodes_is c.new-table.ensures (search rules) c.in-Ok.ensures)
+    root_made _ _ _ _ _ c.from_root-scope.ensures c.requires.nodes_is c.new-table.ensures (search rules) (search rules) c.in-Ok.ensures
 
 pub returns-in-Err : goal.returns-in-Err
 returns-in-Err c =
