@@ -29,7 +29,6 @@ use Rattle.nodes.specs.Given.{Given, given}
 use Rattle.run.specs.Whole.{run_of}
 use Rattle.run.specs.Whole as ran
 use Rattle.run.specs.Whole.{RunAnswer}
-use Rattle.run.specs.declared.Outcome.TheVariants as outcomes
 use Rattle.agreement.specs.Unfold.{term_at, value_at}
 use Rattle.agreement.specs.Agreement.{witnesses_of, meaning_of, Short}
 use Rattle.agreement.proofs.Meaning.{Accepts, meant, ComesOut, form_of, comes_out}

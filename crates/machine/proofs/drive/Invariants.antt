@@ -1,7 +1,6 @@
 -- `drive` meets its contract: turns until the run has ended.
 -- Assumes nothing.
 use Rattle.machine.proofs.Turns.{Going, left}
-use Rattle.book.specs.Text.{text}
 use Rattle.nodes.specs.Given.{given}
 use Rattle.machine.proofs.drive.Given as goal
 

@@ -1,7 +1,6 @@
 -- `run_read` meets its contract.
 -- Assumes nothing.
 use Rattle.run.proofs.Ends.{well_counts, read_well, read_bad}
-use Rattle.book.specs.Text.{text}
 use Rattle.nodes.specs.Given.{given}
 use Rattle.run.proofs.run_read.Goals as goal
 

@@ -2,7 +2,6 @@
 -- Assumes nothing.
 use mathlib.Core.Path.{◌∙◌}
 use Rattle.run.proofs.Ends.{table_full, table_ran}
-use Rattle.book.specs.Text.{text}
 use Rattle.nodes.specs.Given.{given}
 use Rattle.run.proofs.run_table.Goals as goal
 

@@ -3,7 +3,6 @@
 use Prim.Native.Nat.{ℕ, ◌-◌, ◌≤◌, ◌<◌}
 use mathlib.Core.Bool.{true}
 use mathlib.Core.Path.{◌≡◌}
-use Rattle.book.specs.Text.{text}
 use Rattle.nodes.specs.Nodes.{operand_fits, first_bad}
 use Rattle.nodes.proofs.check.first_bad.Given as goal
 

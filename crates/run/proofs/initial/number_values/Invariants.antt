@@ -1,6 +1,5 @@
 -- `initial::number_values` meets its contract: the first r records are numbered.
 -- Assumes nothing.
-use Rattle.book.specs.Text.{text}
 use Rattle.run.proofs.Seeds.{Numbered}
 use Rattle.run.proofs.initial.number_values.Given as goal
 

@@ -2,7 +2,6 @@
 -- Assumes nothing.
 use Prim.Native.Nat.{ℕ}
 use mathlib.Core.List.{List}
-use Rattle.book.specs.Text.{text}
 use Rattle.run.specs.Calls.{Started}
 use Rattle.run.proofs.initial.seed_cells.Given as goal
 
