@@ -25,318 +25,289 @@ use parts::view::{Arm, Span, arm_at, is_call, is_functional, span_of};
 use recipes::calls::paired;
 use scope_bindings::ScopeBindings;
 
-// The expression of record r, in a scope that is lent.
-#[cycle(lowering)]
-pub fn expression(
-    book: &Book,
-    symbols: bool,
-    r: u16,
-    scope: &ScopeBindings,
-    nodes: &mut Nodes,
-) -> Result<u16, Refusal>
-    requires { (Stands book.now.bytes book.now.index r EXPRESSION) × (ScopeStands book.now.bytes book.now.index scope.now) }
-    ensures { Done nodes.old (lower symbols (expr_of book.now.bytes book.now.index r) (scope_of book.now.bytes book.now.index scope.now)) result nodes.new }
-{
-    let m = book.mark_at(r);
-    match m {
-        EC => constant(book, r, nodes),
-        EW => witness(book, r, nodes),
-        EV => variable(book, r, scope, nodes),
-        EB => block(book, symbols, r, scope, nodes),
-        EM => two_arms(book, symbols, r, scope, nodes),
-        CK => {
-            let e = book.field_at(r, 1);
-            expression(book, symbols, e, scope, nodes)
+// What a lowering reads throughout: the book, and whether symbols are asked for.
+#[derive(Clone, Copy)]
+pub struct Lowering<'a> {
+    pub book: &'a Book<'a>,
+    pub symbols: bool,
+}
+
+impl<'a> Lowering<'a> {
+    // The expression of record r, in a scope that is lent.
+    #[cycle(lowering)]
+    pub fn expression(
+        &self,
+        r: u16,
+        scope: &ScopeBindings,
+        nodes: &mut Nodes,
+    ) -> Result<u16, Refusal>
+        requires { (Stands self.now.book.now.bytes self.now.book.now.index r EXPRESSION) × (ScopeStands self.now.book.now.bytes self.now.book.now.index scope.now) }
+        ensures { Done nodes.old (lower self.now.symbols (expr_of self.now.book.now.bytes self.now.book.now.index r) (scope_of self.now.book.now.bytes self.now.book.now.index scope.now)) result nodes.new }
+    {
+        let m = self.book.mark_at(r);
+        match m {
+            EC => constant(self.book, r, nodes),
+            EW => witness(self.book, r, nodes),
+            EV => self.variable(r, scope, nodes),
+            EB => self.block(r, scope, nodes),
+            EM => self.two_arms(r, scope, nodes),
+            CK => {
+                let e = self.book.field_at(r, 1);
+                self.expression(e, scope, nodes)
+            }
+            _ => self.from_row(r, m, scope, nodes),
         }
-        _ => from_row(book, symbols, r, m, scope, nodes),
     }
-}
 
-// A variable: the selector of its name.
-fn variable(book: &Book, r: u16, scope: &ScopeBindings, nodes: &mut Nodes) -> Result<u16, Refusal>
-    requires marked { Marked book.now.bytes book.now.index r EV }
-    requires scope_stands { ScopeStands book.now.bytes book.now.index scope.now }
-    ensures { Done nodes.old (variable r (field book.now.bytes book.now.index r 1) (scope_of book.now.bytes book.now.index scope.now)) result nodes.new }
-{
-    let name = book.field_at(r, 1);
-    scope.get(book, name, nodes, r)
-}
-
-// An expression that has a row of elements: the row, and then what its mark makes of it.
-#[cycle(lowering)]
-fn from_row(
-    book: &Book,
-    symbols: bool,
-    r: u16,
-    m: u8,
-    scope: &ScopeBindings,
-    nodes: &mut Nodes,
-) -> Result<u16, Refusal>
-    requires { (Marked book.now.bytes book.now.index r m) × ((ScopeStands book.now.bytes book.now.index scope.now) × (T (among row_marks m))) }
-    ensures { Done nodes.old (lower symbols (expr_of book.now.bytes book.now.index r) (scope_of book.now.bytes book.now.index scope.now)) result nodes.new }
-{
-    let a = row(book, symbols, r, m, scope, nodes)?;
-    complete(book, symbols, r, m, a, scope, nodes)
-}
-
-// The elements of a record, and what joins them.
-#[cycle(lowering)]
-fn row(
-    book: &Book,
-    symbols: bool,
-    r: u16,
-    m: u8,
-    scope: &ScopeBindings,
-    nodes: &mut Nodes,
-) -> Result<u16, Refusal>
-    requires { (Marked book.now.bytes book.now.index r m) × ((ScopeStands book.now.bytes book.now.index scope.now) × (T (among row_marks m))) }
-    ensures { Done nodes.old (row_run symbols book.now.bytes book.now.index r m (scope_of book.now.bytes book.now.index scope.now)) result nodes.new }
-{
-    let span = span_of(book, r, m);
-    let mut room = [0u16; 256];
-    let roots = &mut room[..span.count];
-    elements(book, symbols, r, m, span, scope, roots, nodes)?;
-    gather(book, r, m, roots, nodes)
-}
-
-// The elements one after another; their nodes go into a row.
-#[cycle(lowering)]
-fn elements(
-    book: &Book,
-    symbols: bool,
-    r: u16,
-    m: u8,
-    span: Span,
-    scope: &ScopeBindings,
-    roots: &mut [u16],
-    nodes: &mut Nodes,
-) -> Result<(), Refusal>
-    requires { (Marked book.now.bytes book.now.index r m) × ((ScopeStands book.now.bytes book.now.index scope.now) × ((T (among row_marks m)) × ((Spanned book.now.bytes book.now.index r m span) × (length roots.old ≡ span.count)))) }
-    ensures { Fills nodes.old (elements_run symbols book.now.bytes book.now.index r m (scope_of book.now.bytes book.now.index scope.now) span.stride span.from span.count) result roots.new nodes.new }
-{
-    for (k, root) in roots.iter_mut().enumerate() {
-        let j = span.from + span.stride * k;
-        *root = element(book, symbols, r, m, j, scope, nodes)?;
+    // A variable: the selector of its name.
+    fn variable(&self, r: u16, scope: &ScopeBindings, nodes: &mut Nodes) -> Result<u16, Refusal>
+        requires marked { Marked self.now.book.now.bytes self.now.book.now.index r EV }
+        requires scope_stands { ScopeStands self.now.book.now.bytes self.now.book.now.index scope.now }
+        ensures { Done nodes.old (variable r (field self.now.book.now.bytes self.now.book.now.index r 1) (scope_of self.now.book.now.bytes self.now.book.now.index scope.now)) result nodes.new }
+    {
+        let name = self.book.field_at(r, 1);
+        scope.get(self.book, name, nodes, r)
     }
-    Ok(())
-}
 
-// The element at field j: an arm of an enum's match has its pattern before it.
-#[cycle(lowering)]
-fn element(
-    book: &Book,
-    symbols: bool,
-    r: u16,
-    m: u8,
-    j: usize,
-    scope: &ScopeBindings,
-    nodes: &mut Nodes,
-) -> Result<u16, Refusal>
-    requires { (Marked book.now.bytes book.now.index r m) × ((ScopeStands book.now.bytes book.now.index scope.now) × (InSpan book.now.bytes book.now.index r m j)) }
-    ensures { Done nodes.old (element_run symbols book.now.bytes book.now.index r m (scope_of book.now.bytes book.now.index scope.now) j) result nodes.new }
-{
-    if m == EH {
-        let a = arm_at(book, r, j - 1);
-        arm(book, symbols, r, a, scope, nodes)
-    } else {
-        let e = book.field_at(r, j);
-        expression(book, symbols, e, scope, nodes)
+    // An expression that has a row of elements: the row, and then what its mark makes of it.
+    #[cycle(lowering)]
+    fn from_row(
+        &self,
+        r: u16,
+        m: u8,
+        scope: &ScopeBindings,
+        nodes: &mut Nodes,
+    ) -> Result<u16, Refusal>
+        requires { (Marked self.now.book.now.bytes self.now.book.now.index r m) × ((ScopeStands self.now.book.now.bytes self.now.book.now.index scope.now) × (T (among row_marks m))) }
+        ensures { Done nodes.old (lower self.now.symbols (expr_of self.now.book.now.bytes self.now.book.now.index r) (scope_of self.now.book.now.bytes self.now.book.now.index scope.now)) result nodes.new }
+    {
+        let a = self.row(r, m, scope, nodes)?;
+        self.complete(r, m, a, scope, nodes)
     }
-}
 
-// An arm of a match: its expression, where its pattern is bound.
-#[cycle(lowering)]
-fn arm(
-    book: &Book,
-    symbols: bool,
-    r: u16,
-    a: Arm,
-    scope: &ScopeBindings,
-    nodes: &mut Nodes,
-) -> Result<u16, Refusal>
-    requires { (Stands book.now.bytes book.now.index a.pattern PATTERN) × ((Stands book.now.bytes book.now.index a.body EXPRESSION) × (ScopeStands book.now.bytes book.now.index scope.now)) }
-    ensures { Done nodes.old (binding r (scope_of book.now.bytes book.now.index scope.now) (lower symbols (expr_of book.now.bytes book.now.index a.body) (pattern_of book.now.bytes book.now.index a.pattern ∷ (scope_of book.now.bytes book.now.index scope.now)))) result nodes.new }
-{
-    if scope.count >= 256 {
-        return Err(Refusal {
-            fault: Fault::Bindings,
-            place: r,
-        });
+    // The elements of a record, and what joins them.
+    #[cycle(lowering)]
+    fn row(&self, r: u16, m: u8, scope: &ScopeBindings, nodes: &mut Nodes) -> Result<u16, Refusal>
+        requires { (Marked self.now.book.now.bytes self.now.book.now.index r m) × ((ScopeStands self.now.book.now.bytes self.now.book.now.index scope.now) × (T (among row_marks m))) }
+        ensures { Done nodes.old (row_run self.now.symbols self.now.book.now.bytes self.now.book.now.index r m (scope_of self.now.book.now.bytes self.now.book.now.index scope.now)) result nodes.new }
+    {
+        let span = span_of(self.book, r, m);
+        let mut room = [0u16; 256];
+        let roots = &mut room[..span.count];
+        self.elements(r, m, span, scope, roots, nodes)?;
+        gather(self.book, r, m, roots, nodes)
     }
-    let inner = scope.insert(a.pattern);
-    expression(book, symbols, a.body, &inner, nodes)
-}
 
-// What an expression makes of its row's node: an enum's match, a call, or a wrap.
-#[cycle(lowering)]
-fn complete(
-    book: &Book,
-    symbols: bool,
-    r: u16,
-    m: u8,
-    inner: u16,
-    scope: &ScopeBindings,
-    nodes: &mut Nodes,
-) -> Result<u16, Refusal>
-    requires { (Marked book.now.bytes book.now.index r m) × (ScopeStands book.now.bytes book.now.index scope.now) }
-    ensures { Done nodes.old (complete_run symbols book.now.bytes book.now.index r m (scope_of book.now.bytes book.now.index scope.now) inner) result nodes.new }
-{
-    if m == EH {
-        choose(book, symbols, r, inner, scope, nodes)
-    } else if is_call(m) {
-        call(book, symbols, r, m, inner, nodes)
-    } else {
-        wrap(book, r, m, inner, nodes)
+    // The elements one after another; their nodes go into a row.
+    #[cycle(lowering)]
+    fn elements(
+        &self,
+        r: u16,
+        m: u8,
+        span: Span,
+        scope: &ScopeBindings,
+        roots: &mut [u16],
+        nodes: &mut Nodes,
+    ) -> Result<(), Refusal>
+        requires { (Marked self.now.book.now.bytes self.now.book.now.index r m) × ((ScopeStands self.now.book.now.bytes self.now.book.now.index scope.now) × ((T (among row_marks m)) × ((Spanned self.now.book.now.bytes self.now.book.now.index r m span) × (length roots.old ≡ span.count)))) }
+        ensures { Fills nodes.old (elements_run self.now.symbols self.now.book.now.bytes self.now.book.now.index r m (scope_of self.now.book.now.bytes self.now.book.now.index scope.now) span.stride span.from span.count) result roots.new nodes.new }
+    {
+        for (k, root) in roots.iter_mut().enumerate() {
+            let j = span.from + span.stride * k;
+            *root = self.element(r, m, j, scope, nodes)?;
+        }
+        Ok(())
     }
-}
 
-// An enum's match, after its tree of cases: the scrutinee, beside the environment.
-#[cycle(lowering)]
-fn choose(
-    book: &Book,
-    symbols: bool,
-    r: u16,
-    cases: u16,
-    scope: &ScopeBindings,
-    nodes: &mut Nodes,
-) -> Result<u16, Refusal>
-    requires { (Marked book.now.bytes book.now.index r EH) × (ScopeStands book.now.bytes book.now.index scope.now) }
-    ensures { Done nodes.old (complete_run symbols book.now.bytes book.now.index r EH (scope_of book.now.bytes book.now.index scope.now) cases) result nodes.new }
-{
-    let e = book.field_at(r, 1);
-    let s = expression(book, symbols, e, scope, nodes)?;
-    choose_arm(r, s, cases, nodes)
-}
-
-// A call, after its arguments: its body, and then what joins them.
-#[cycle(lowering)]
-fn call(
-    book: &Book,
-    symbols: bool,
-    r: u16,
-    m: u8,
-    arguments: u16,
-    nodes: &mut Nodes,
-) -> Result<u16, Refusal>
-    requires { (Marked book.now.bytes book.now.index r m) × (is_call m ≡ true) }
-    ensures { Done nodes.old (call_run symbols book.now.bytes book.now.index r m arguments) result nodes.new }
-{
-    let b = body(book, symbols, r, m, nodes)?;
-    finish(book, symbols, r, m, arguments, b, nodes)
-}
-
-// The body of a call.
-#[cycle(lowering)]
-fn body(book: &Book, symbols: bool, r: u16, m: u8, nodes: &mut Nodes) -> Result<u16, Refusal>
-    requires { (Marked book.now.bytes book.now.index r m) × (is_call m ≡ true) }
-    ensures { Done nodes.old (body_run symbols book.now.bytes book.now.index r m) result nodes.new }
-{
-    if is_functional(m) {
-        let f = book.field_at(r, 1);
-        let g = function(book, symbols, f, nodes)?;
-        fold_body(book, r, m, g, nodes)
-    } else {
-        plain_body(book, r, m, nodes)
+    // The element at field j: an arm of an enum's match has its pattern before it.
+    #[cycle(lowering)]
+    fn element(
+        &self,
+        r: u16,
+        m: u8,
+        j: usize,
+        scope: &ScopeBindings,
+        nodes: &mut Nodes,
+    ) -> Result<u16, Refusal>
+        requires { (Marked self.now.book.now.bytes self.now.book.now.index r m) × ((ScopeStands self.now.book.now.bytes self.now.book.now.index scope.now) × (InSpan self.now.book.now.bytes self.now.book.now.index r m j)) }
+        ensures { Done nodes.old (element_run self.now.symbols self.now.book.now.bytes self.now.book.now.index r m (scope_of self.now.book.now.bytes self.now.book.now.index scope.now) j) result nodes.new }
+    {
+        if m == EH {
+            let a = arm_at(self.book, r, j - 1);
+            self.arm(r, a, scope, nodes)
+        } else {
+            let e = self.book.field_at(r, j);
+            self.expression(e, scope, nodes)
+        }
     }
-}
 
-// A function's body, lowered anew for each call, in a scope of its parameters only.
-#[cycle(lowering)]
-fn function(book: &Book, symbols: bool, f: u16, nodes: &mut Nodes) -> Result<u16, Refusal>
-    requires { Stands book.now.bytes book.now.index f FUNCTION }
-    ensures { Done nodes.old (body symbols (fun_of book.now.bytes book.now.index f)) result nodes.new }
-{
-    let n = book.field_at(f, 1) as usize;
-    let e = book.field_at(f, 2 + 2 * n);
-    let scope = ScopeBindings::from_root(f);
-    expression(book, symbols, e, &scope, nodes)
-}
-
-// A match of two arms: both arms, the scrutinee, and then the case.
-#[cycle(lowering)]
-fn two_arms(
-    book: &Book,
-    symbols: bool,
-    r: u16,
-    scope: &ScopeBindings,
-    nodes: &mut Nodes,
-) -> Result<u16, Refusal>
-    requires { (Marked book.now.bytes book.now.index r EM) × (ScopeStands book.now.bytes book.now.index scope.now) }
-    ensures { Done nodes.old (lower symbols (expr_of book.now.bytes book.now.index r) (scope_of book.now.bytes book.now.index scope.now)) result nodes.new }
-{
-    let left = arm_at(book, r, 2);
-    let right = arm_at(book, r, 4);
-    let e = book.field_at(r, 1);
-    let a = arm(book, symbols, r, left, scope, nodes)?;
-    let b = arm(book, symbols, r, right, scope, nodes)?;
-    let s = expression(book, symbols, e, scope, nodes)?;
-    match_arms(r, s, a, b, nodes)
-}
-
-// A block: its statements begun in order, its end, and the statements ended from the last on.
-#[cycle(lowering)]
-fn block(
-    book: &Book,
-    symbols: bool,
-    r: u16,
-    scope: &ScopeBindings,
-    nodes: &mut Nodes,
-) -> Result<u16, Refusal>
-    requires { (Marked book.now.bytes book.now.index r EB) × (ScopeStands book.now.bytes book.now.index scope.now) }
-    ensures { Done nodes.old (lower symbols (expr_of book.now.bytes book.now.index r) (scope_of book.now.bytes book.now.index scope.now)) result nodes.new }
-{
-    let count = book.field_at(r, 1) as usize;
-    let mut begun = [0u16; 256];
-    let mut own = *scope;
-    for k in 0..count {
-        let s = book.field_at(r, 2 + k);
-        begun[k] = begin(book, symbols, s, &own, nodes)?;
-        own = enter(book, s, own);
+    // An arm of a match: its expression, where its pattern is bound.
+    #[cycle(lowering)]
+    fn arm(&self, r: u16, a: Arm, scope: &ScopeBindings, nodes: &mut Nodes) -> Result<u16, Refusal>
+        requires { (Stands self.now.book.now.bytes self.now.book.now.index a.pattern PATTERN) × ((Stands self.now.book.now.bytes self.now.book.now.index a.body EXPRESSION) × (ScopeStands self.now.book.now.bytes self.now.book.now.index scope.now)) }
+        ensures { Done nodes.old (binding r (scope_of self.now.book.now.bytes self.now.book.now.index scope.now) (lower self.now.symbols (expr_of self.now.book.now.bytes self.now.book.now.index a.body) (pattern_of self.now.book.now.bytes self.now.book.now.index a.pattern ∷ (scope_of self.now.book.now.bytes self.now.book.now.index scope.now)))) result nodes.new }
+    {
+        if scope.count >= 256 {
+            return Err(Refusal {
+                fault: Fault::Bindings,
+                place: r,
+            });
+        }
+        let inner = scope.insert(a.pattern);
+        self.expression(a.body, &inner, nodes)
     }
-    let last = end(book, symbols, r, &own, nodes)?;
-    close_all(book, r, &begun[..count], last, nodes)
-}
 
-// The end of a block: an expression, or unit where there is none.
-#[cycle(lowering)]
-fn end(
-    book: &Book,
-    symbols: bool,
-    r: u16,
-    scope: &ScopeBindings,
-    nodes: &mut Nodes,
-) -> Result<u16, Refusal>
-    requires { (Marked book.now.bytes book.now.index r EB) × (ScopeStands book.now.bytes book.now.index scope.now) }
-    ensures { Done nodes.old (statements symbols r (stmts_of book.now.bytes book.now.index r (2 + field book.now.bytes book.now.index r 1) 0) (scope_of book.now.bytes book.now.index scope.now)) result nodes.new }
-{
-    let n = book.field_at(r, 1) as usize;
-    let e = book.field_at(r, 2 + n);
-    if e == 65535 {
-        nodes.put(r, UNIT, 0, 0)
-    } else {
-        expression(book, symbols, e, scope, nodes)
+    // What an expression makes of its row's node: an enum's match, a call, or a wrap.
+    #[cycle(lowering)]
+    fn complete(
+        &self,
+        r: u16,
+        m: u8,
+        inner: u16,
+        scope: &ScopeBindings,
+        nodes: &mut Nodes,
+    ) -> Result<u16, Refusal>
+        requires { (Marked self.now.book.now.bytes self.now.book.now.index r m) × (ScopeStands self.now.book.now.bytes self.now.book.now.index scope.now) }
+        ensures { Done nodes.old (complete_run self.now.symbols self.now.book.now.bytes self.now.book.now.index r m (scope_of self.now.book.now.bytes self.now.book.now.index scope.now) inner) result nodes.new }
+    {
+        if m == EH {
+            self.choose(r, inner, scope, nodes)
+        } else if is_call(m) {
+            self.call(r, m, inner, nodes)
+        } else {
+            wrap(self.book, r, m, inner, nodes)
+        }
     }
-}
 
-// A statement, up to the rest of its block.
-#[cycle(lowering)]
-fn begin(
-    book: &Book,
-    symbols: bool,
-    s: u16,
-    scope: &ScopeBindings,
-    nodes: &mut Nodes,
-) -> Result<u16, Refusal>
-    requires { (Stands book.now.bytes book.now.index s STATEMENT) × (ScopeStands book.now.bytes book.now.index scope.now) }
-    ensures { Done nodes.old (begin_run book.now.bytes book.now.index s symbols (scope_of book.now.bytes book.now.index scope.now)) result nodes.new }
-{
-    if book.mark_at(s) == SA {
-        let e = book.field_at(s, 1);
-        let value = expression(book, symbols, e, scope, nodes)?;
-        bind_value(s, value, scope.count, nodes)
-    } else {
-        let e = book.field_at(s, 0);
-        expression(book, symbols, e, scope, nodes)
+    // An enum's match, after its tree of cases: the scrutinee, beside the environment.
+    #[cycle(lowering)]
+    fn choose(
+        &self,
+        r: u16,
+        cases: u16,
+        scope: &ScopeBindings,
+        nodes: &mut Nodes,
+    ) -> Result<u16, Refusal>
+        requires { (Marked self.now.book.now.bytes self.now.book.now.index r EH) × (ScopeStands self.now.book.now.bytes self.now.book.now.index scope.now) }
+        ensures { Done nodes.old (complete_run self.now.symbols self.now.book.now.bytes self.now.book.now.index r EH (scope_of self.now.book.now.bytes self.now.book.now.index scope.now) cases) result nodes.new }
+    {
+        let e = self.book.field_at(r, 1);
+        let s = self.expression(e, scope, nodes)?;
+        choose_arm(r, s, cases, nodes)
+    }
+
+    // A call, after its arguments: its body, and then what joins them.
+    #[cycle(lowering)]
+    fn call(&self, r: u16, m: u8, arguments: u16, nodes: &mut Nodes) -> Result<u16, Refusal>
+        requires { (Marked self.now.book.now.bytes self.now.book.now.index r m) × (is_call m ≡ true) }
+        ensures { Done nodes.old (call_run self.now.symbols self.now.book.now.bytes self.now.book.now.index r m arguments) result nodes.new }
+    {
+        let b = self.body(r, m, nodes)?;
+        finish(self.book, self.symbols, r, m, arguments, b, nodes)
+    }
+
+    // The body of a call.
+    #[cycle(lowering)]
+    fn body(&self, r: u16, m: u8, nodes: &mut Nodes) -> Result<u16, Refusal>
+        requires { (Marked self.now.book.now.bytes self.now.book.now.index r m) × (is_call m ≡ true) }
+        ensures { Done nodes.old (body_run self.now.symbols self.now.book.now.bytes self.now.book.now.index r m) result nodes.new }
+    {
+        if is_functional(m) {
+            let f = self.book.field_at(r, 1);
+            let g = self.function(f, nodes)?;
+            fold_body(self.book, r, m, g, nodes)
+        } else {
+            plain_body(self.book, r, m, nodes)
+        }
+    }
+
+    // A function's body, lowered anew for each call, in a scope of its parameters only.
+    #[cycle(lowering)]
+    fn function(&self, f: u16, nodes: &mut Nodes) -> Result<u16, Refusal>
+        requires { Stands self.now.book.now.bytes self.now.book.now.index f FUNCTION }
+        ensures { Done nodes.old (body self.now.symbols (fun_of self.now.book.now.bytes self.now.book.now.index f)) result nodes.new }
+    {
+        let n = self.book.field_at(f, 1) as usize;
+        let e = self.book.field_at(f, 2 + 2 * n);
+        let scope = ScopeBindings::from_root(f);
+        self.expression(e, &scope, nodes)
+    }
+
+    // A match of two arms: both arms, the scrutinee, and then the case.
+    #[cycle(lowering)]
+    fn two_arms(&self, r: u16, scope: &ScopeBindings, nodes: &mut Nodes) -> Result<u16, Refusal>
+        requires { (Marked self.now.book.now.bytes self.now.book.now.index r EM) × (ScopeStands self.now.book.now.bytes self.now.book.now.index scope.now) }
+        ensures { Done nodes.old (lower self.now.symbols (expr_of self.now.book.now.bytes self.now.book.now.index r) (scope_of self.now.book.now.bytes self.now.book.now.index scope.now)) result nodes.new }
+    {
+        let left = arm_at(self.book, r, 2);
+        let right = arm_at(self.book, r, 4);
+        let e = self.book.field_at(r, 1);
+        let a = self.arm(r, left, scope, nodes)?;
+        let b = self.arm(r, right, scope, nodes)?;
+        let s = self.expression(e, scope, nodes)?;
+        match_arms(r, s, a, b, nodes)
+    }
+
+    // A block: its statements begun in order, its end, and the statements ended from the last on.
+    #[cycle(lowering)]
+    fn block(&self, r: u16, scope: &ScopeBindings, nodes: &mut Nodes) -> Result<u16, Refusal>
+        requires { (Marked self.now.book.now.bytes self.now.book.now.index r EB) × (ScopeStands self.now.book.now.bytes self.now.book.now.index scope.now) }
+        ensures { Done nodes.old (lower self.now.symbols (expr_of self.now.book.now.bytes self.now.book.now.index r) (scope_of self.now.book.now.bytes self.now.book.now.index scope.now)) result nodes.new }
+    {
+        let count = self.book.field_at(r, 1) as usize;
+        let mut begun = [0u16; 256];
+        let mut own = *scope;
+        for k in 0..count {
+            let s = self.book.field_at(r, 2 + k);
+            begun[k] = self.begin(s, &own, nodes)?;
+            own = self.enter(s, own);
+        }
+        let last = self.end(r, &own, nodes)?;
+        close_all(self.book, r, &begun[..count], last, nodes)
+    }
+
+    // The end of a block: an expression, or unit where there is none.
+    #[cycle(lowering)]
+    fn end(&self, r: u16, scope: &ScopeBindings, nodes: &mut Nodes) -> Result<u16, Refusal>
+        requires { (Marked self.now.book.now.bytes self.now.book.now.index r EB) × (ScopeStands self.now.book.now.bytes self.now.book.now.index scope.now) }
+        ensures { Done nodes.old (statements self.now.symbols r (stmts_of self.now.book.now.bytes self.now.book.now.index r (2 + field self.now.book.now.bytes self.now.book.now.index r 1) 0) (scope_of self.now.book.now.bytes self.now.book.now.index scope.now)) result nodes.new }
+    {
+        let n = self.book.field_at(r, 1) as usize;
+        let e = self.book.field_at(r, 2 + n);
+        if e == 65535 {
+            nodes.put(r, UNIT, 0, 0)
+        } else {
+            self.expression(e, scope, nodes)
+        }
+    }
+
+    // A statement, up to the rest of its block.
+    #[cycle(lowering)]
+    fn begin(&self, s: u16, scope: &ScopeBindings, nodes: &mut Nodes) -> Result<u16, Refusal>
+        requires { (Stands self.now.book.now.bytes self.now.book.now.index s STATEMENT) × (ScopeStands self.now.book.now.bytes self.now.book.now.index scope.now) }
+        ensures { Done nodes.old (begin_run self.now.book.now.bytes self.now.book.now.index s self.now.symbols (scope_of self.now.book.now.bytes self.now.book.now.index scope.now)) result nodes.new }
+    {
+        if self.book.mark_at(s) == SA {
+            let e = self.book.field_at(s, 1);
+            let value = self.expression(e, scope, nodes)?;
+            bind_value(s, value, scope.count, nodes)
+        } else {
+            let e = self.book.field_at(s, 0);
+            self.expression(e, scope, nodes)
+        }
+    }
+
+    // The scope of the rest of a block after statement s.
+    fn enter(&self, s: u16, scope: ScopeBindings) -> ScopeBindings
+        requires stands { Stands self.now.book.now.bytes self.now.book.now.index s STATEMENT }
+        requires scope_stands { ScopeStands self.now.book.now.bytes self.now.book.now.index scope }
+        ensures { Enters self.now.book.now.bytes self.now.book.now.index s scope result }
+    {
+        if self.book.mark_at(s) != SA || scope.count >= 256 {
+            return scope;
+        }
+        let pattern = self.book.field_at(s, 0);
+        scope.insert(pattern)
     }
 }
 
@@ -351,17 +322,4 @@ fn bind_value(s: u16, value: u16, live: usize, nodes: &mut Nodes) -> Result<u16,
         });
     }
     paired(nodes, s, value)
-}
-
-// The scope of the rest of a block after statement s.
-fn enter(book: &Book, s: u16, scope: ScopeBindings) -> ScopeBindings
-    requires stands { Stands book.now.bytes book.now.index s STATEMENT }
-    requires scope_stands { ScopeStands book.now.bytes book.now.index scope }
-    ensures { Enters book.now.bytes book.now.index s scope result }
-{
-    if book.mark_at(s) != SA || scope.count >= 256 {
-        return scope;
-    }
-    let pattern = book.field_at(s, 0);
-    scope.insert(pattern)
 }

@@ -7,7 +7,7 @@ ghost use Rattle.book.specs.Format.{EXPRESSION};
 ghost use Rattle.book.specs.Stands.{Stands};
 ghost use Rattle.compile.specs.Whole.{trace_of, lower_of, table_of, Lowered};
 
-use crate::cycle::expression;
+use crate::cycle::Lowering;
 use book::fault::Refusal;
 use book::read::index_book;
 use book::record::Book;
@@ -37,7 +37,8 @@ fn lower_root(book: &Book, symbols: bool, r: u16, nodes: &mut [u8]) -> Result<u1
 {
     let scope = ScopeBindings::from_root(IGNORED);
     let mut table = Nodes::new(nodes);
-    match expression(book, symbols, r, &scope, &mut table) {
+    let lowering = Lowering { book, symbols };
+    match lowering.expression(r, &scope, &mut table) {
         Ok(_) => Ok(table.count()),
         Err(refusal) => {
             clear(nodes);

@@ -6,7 +6,7 @@ use lib.ListN.{length}
 use Rattle.scope_bindings.specs.Scope.{scope_of, ScopeStands}
 use Rattle.compile.proofs.Steps.{Suffices}
 use Rattle.compile.proofs.Blocks.{Begun}
-use Rattle.compile.proofs.cycle.+lowering.Given as goal
+use Rattle.compile.proofs.cycle.Lowering.+lowering.Given as goal
 
 abbrev pub decreases-arm : goal.decreases-arm
 decreases-arm l = l.a.body * 16 + 15
@@ -19,7 +19,7 @@ decreases-block l = l.r * 16 + 13
 
 abbrev pub invariant-block-loop-k : goal.invariant-block-loop-k
 invariant-block-loop-k l =
-    (length l.begun ≡ 256) × ScopeStands l.book.bytes l.book.index l.own × Begun l.symbols l.book.bytes l.book.index l.r l.count (scope_of l.book.bytes l.book.index l.scope) l.initial.nodes l.nodes l.k (scope_of l.book.bytes l.book.index l.own) l.begun
+    (length l.begun ≡ 256) × ScopeStands l.self.book.now.bytes l.self.book.now.index l.own × Begun l.self.symbols l.self.book.now.bytes l.self.book.now.index l.r l.count (scope_of l.self.book.now.bytes l.self.book.now.index l.scope) l.initial.nodes l.nodes l.k (scope_of l.self.book.now.bytes l.self.book.now.index l.own) l.begun
 
 abbrev pub decreases-body : goal.decreases-body
 decreases-body l = l.r * 16 + 7
@@ -41,7 +41,7 @@ decreases-elements l = l.r * 16 + 11
 
 abbrev pub invariant-elements-loop-k : goal.invariant-elements-loop-k
 invariant-elements-loop-k l =
-    Suffices l.symbols l.book.bytes l.book.index l.r l.m (scope_of l.book.bytes l.book.index l.scope) l.span.stride l.span.from l.span.count l.initial.nodes l.nodes l.k l.roots
+    Suffices l.self.symbols l.self.book.now.bytes l.self.book.now.index l.r l.m (scope_of l.self.book.now.bytes l.self.book.now.index l.scope) l.span.stride l.span.from l.span.count l.initial.nodes l.nodes l.k l.roots
 
 abbrev pub decreases-end : goal.decreases-end
 decreases-end l = l.r * 16 + 10

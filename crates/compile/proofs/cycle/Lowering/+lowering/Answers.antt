@@ -19,7 +19,7 @@ use Rattle.compile.proofs.Steps.{suffices_start, suffices_next, suffices_halt, s
 use Rattle.compile.proofs.Blocks.{begun_start, begun_next, begun_halt, begun_end, begun_end_halt}
 use Rattle.compile.proofs.Facts.{head_is, head_less, in_span, does_stands, does_below, value_stands, value_below, inner_stands, arm_done, arm_full, fn_lies, fn_stands, fn_less, fn_done, end_lies, end_is, end_less, begin_does, begin_assign, begin_halt, element_plain, element_arm, functional_lies, functional_stands, functional_below, body_plain, body_fold, body_halt, choose_then, choose_halt, complete_call, complete_wrap, lies_after, arm_names, arm_body, arm_less, marked_as, marked, end_unit, end_expr, row_then, row_halt, arms_is, enters_is}
 use borrow.Author.Rules.{rules}
-use Rattle.compile.proofs.cycle.+lowering.Goals as goal
+use Rattle.compile.proofs.cycle.Lowering.+lowering.Goals as goal
 
 pub arm-returns-then-scope-ge256 : goal.arm-returns-then-scope-ge256
 arm-returns-then-scope-ge256 t c = arm_full _ _ _ _ _ _ c.if-scope-ge256.true

@@ -1,7 +1,7 @@
 -- `variable` meets its contract: the name is field 1.
 -- Assumes nothing.
 use Rattle.parts.proofs.Marks.{lies}
-use Rattle.compile.proofs.cycle.variable.Goals as goal
+use Rattle.compile.proofs.cycle.Lowering.variable.Goals as goal
 
 pub field_at-name-requires : goal.field_at-name-requires
 field_at-name-requires c = lies c.requires.marked 1 tt

@@ -5,8 +5,8 @@ use Rattle.book.proofs.Standing.{stands_begins, head_lies}
 use Rattle.book.specs.Format.{SA}
 use Rattle.compile.proofs.Facts.{head_named, enters_does, enters_full, enters_more}
 use native.Mathlib.Omega.{arith}
-use Rattle.compile.proofs.cycle.enter.Goals as goal
-use Rattle.compile.proofs.cycle.enter.Goals.{then-mark_at-ne-SA-via-then-mark_at-ne-SA, then-mark_at-ne-SA-via-else-mark_at-ne-SA+then-scope-ge256}
+use Rattle.compile.proofs.cycle.Lowering.enter.Goals as goal
+use Rattle.compile.proofs.cycle.Lowering.enter.Goals.{then-mark_at-ne-SA-via-then-mark_at-ne-SA, then-mark_at-ne-SA-via-else-mark_at-ne-SA+then-scope-ge256}
 
 pub mark_at-requires : goal.mark_at-requires
 mark_at-requires c = stands_begins c.requires.stands
