@@ -11,8 +11,27 @@ use Rattle.scope_bindings.specs.Scope.{scope_of, ScopeStands}
 use Rattle.scope_bindings.specs.declared.ScopeBindings.{ScopeBindings}
 use Rattle.recipes.specs.Calls as calls
 use Rattle.parts.specs.Joins.{chosen, finished}
-use Rattle.parts.specs.Parts.{span_at, is_call, is_functional, symbol_at, gather_run, wrap_run, fold_run, plain_run}
+use Rattle.parts.specs.Parts.{Marked, span_at, is_call, is_functional, symbol_at, gather_run, wrap_run, fold_run, plain_run}
 use Rattle.compile.specs.Lower.{binding, lower, body}
+use Rattle.compile.specs.declared.cycle.Lowering.{Lowering}
+
+-- of the book that a lowering reads: record r stands as a kind, or has a mark; a scope stands, and has these patterns
+module _ (l : Lowering) where
+  abbrev pub StandsIn : ℕ → ℕ → Type 0
+  StandsIn r k = Stands l.book.now.bytes l.book.now.index r k
+
+  abbrev pub MarkedIn : ℕ → ℕ → Type 0
+  MarkedIn r m = Marked l.book.now.bytes l.book.now.index r m
+
+  abbrev pub ScopeIn : ScopeBindings → Type 0
+  ScopeIn s = ScopeStands l.book.now.bytes l.book.now.index s
+
+  abbrev pub patterns : ScopeBindings → List Pat
+  patterns s = scope_of l.book.now.bytes l.book.now.index s
+
+  -- what its expression r stores in a scope
+  abbrev pub lowered : ℕ → ScopeBindings → Run ℕ
+  lowered r s = lower l.symbols (expr_of l.book.now.bytes l.book.now.index r) (patterns s)
 
 module _ (y : Bool) (b i : List ℕ) (r m : ℕ) where
   -- the element at field j: an arm of a match binds the pattern before it

@@ -4,14 +4,13 @@ ghost use Rattle.std.specs.Prelude.{◌≡◌, true, ◌∷◌, ◌+◌, T, leng
 ghost use Rattle.laws.specs.Table.{among};
 ghost use Rattle.book.specs.Format.{EXPRESSION, PATTERN, STATEMENT, FUNCTION, EV, EB, EM, EH};
 ghost use Rattle.book.specs.Index.{field};
-ghost use Rattle.book.specs.Stands.{Stands};
 ghost use Rattle.book.specs.Tree.{expr_of, pattern_of, fun_of};
 ghost use Rattle.named.specs.Stores.{Done, Fills};
 ghost use Rattle.recipes.specs.Calls.{paired};
-ghost use Rattle.scope_bindings.specs.Scope.{variable, scope_of, ScopeStands};
-ghost use Rattle.parts.specs.Parts.{Marked, Spanned, row_marks, is_call};
+ghost use Rattle.scope_bindings.specs.Scope.{variable};
+ghost use Rattle.parts.specs.Parts.{Spanned, row_marks, is_call};
 ghost use Rattle.compile.specs.Lower.{binding_at, binding, lower, statements, body};
-ghost use Rattle.compile.specs.Cycle.{element_run, elements_run, row_run, body_run, complete_run, call_run, begin_run, stmts_of, Enters, InSpan};
+ghost use Rattle.compile.specs.Cycle.{element_run, elements_run, row_run, body_run, complete_run, call_run, begin_run, stmts_of, Enters, InSpan, StandsIn, MarkedIn, ScopeIn, patterns, lowered};
 
 use book::fault::{Fault, Refusal};
 use book::format::{CK, EB, EC, EH, EM, EV, EW, SA};
@@ -32,7 +31,7 @@ pub struct Lowering<'a> {
     pub symbols: bool,
 }
 
-impl<'a> Lowering<'a> {
+impl Lowering<'_> {
     // The expression of record r, in a scope that is lent.
     #[cycle(lowering)]
     pub fn expression(
@@ -41,8 +40,8 @@ impl<'a> Lowering<'a> {
         scope: &ScopeBindings,
         nodes: &mut Nodes,
     ) -> Result<u16, Refusal>
-        requires { (Stands self.now.book.now.bytes self.now.book.now.index r EXPRESSION) × (ScopeStands self.now.book.now.bytes self.now.book.now.index scope.now) }
-        ensures { Done nodes.old (lower self.now.symbols (expr_of self.now.book.now.bytes self.now.book.now.index r) (scope_of self.now.book.now.bytes self.now.book.now.index scope.now)) result nodes.new }
+        requires { (StandsIn self.now r EXPRESSION) × (ScopeIn self.now scope.now) }
+        ensures { Done nodes.old (lowered self.now r scope.now) result nodes.new }
     {
         let m = self.book.mark_at(r);
         match m {
@@ -61,9 +60,9 @@ impl<'a> Lowering<'a> {
 
     // A variable: the selector of its name.
     fn variable(&self, r: u16, scope: &ScopeBindings, nodes: &mut Nodes) -> Result<u16, Refusal>
-        requires marked { Marked self.now.book.now.bytes self.now.book.now.index r EV }
-        requires scope_stands { ScopeStands self.now.book.now.bytes self.now.book.now.index scope.now }
-        ensures { Done nodes.old (variable r (field self.now.book.now.bytes self.now.book.now.index r 1) (scope_of self.now.book.now.bytes self.now.book.now.index scope.now)) result nodes.new }
+        requires marked { MarkedIn self.now r EV }
+        requires scope_stands { ScopeIn self.now scope.now }
+        ensures { Done nodes.old (variable r (field self.now.book.now.bytes self.now.book.now.index r 1) (patterns self.now scope.now)) result nodes.new }
     {
         let name = self.book.field_at(r, 1);
         scope.get(self.book, name, nodes, r)
@@ -78,8 +77,8 @@ impl<'a> Lowering<'a> {
         scope: &ScopeBindings,
         nodes: &mut Nodes,
     ) -> Result<u16, Refusal>
-        requires { (Marked self.now.book.now.bytes self.now.book.now.index r m) × ((ScopeStands self.now.book.now.bytes self.now.book.now.index scope.now) × (T (among row_marks m))) }
-        ensures { Done nodes.old (lower self.now.symbols (expr_of self.now.book.now.bytes self.now.book.now.index r) (scope_of self.now.book.now.bytes self.now.book.now.index scope.now)) result nodes.new }
+        requires { (MarkedIn self.now r m) × ((ScopeIn self.now scope.now) × (T (among row_marks m))) }
+        ensures { Done nodes.old (lowered self.now r scope.now) result nodes.new }
     {
         let a = self.row(r, m, scope, nodes)?;
         self.complete(r, m, a, scope, nodes)
@@ -88,8 +87,8 @@ impl<'a> Lowering<'a> {
     // The elements of a record, and what joins them.
     #[cycle(lowering)]
     fn row(&self, r: u16, m: u8, scope: &ScopeBindings, nodes: &mut Nodes) -> Result<u16, Refusal>
-        requires { (Marked self.now.book.now.bytes self.now.book.now.index r m) × ((ScopeStands self.now.book.now.bytes self.now.book.now.index scope.now) × (T (among row_marks m))) }
-        ensures { Done nodes.old (row_run self.now.symbols self.now.book.now.bytes self.now.book.now.index r m (scope_of self.now.book.now.bytes self.now.book.now.index scope.now)) result nodes.new }
+        requires { (MarkedIn self.now r m) × ((ScopeIn self.now scope.now) × (T (among row_marks m))) }
+        ensures { Done nodes.old (row_run self.now.symbols self.now.book.now.bytes self.now.book.now.index r m (patterns self.now scope.now)) result nodes.new }
     {
         let span = span_of(self.book, r, m);
         let mut room = [0u16; 256];
@@ -109,8 +108,8 @@ impl<'a> Lowering<'a> {
         roots: &mut [u16],
         nodes: &mut Nodes,
     ) -> Result<(), Refusal>
-        requires { (Marked self.now.book.now.bytes self.now.book.now.index r m) × ((ScopeStands self.now.book.now.bytes self.now.book.now.index scope.now) × ((T (among row_marks m)) × ((Spanned self.now.book.now.bytes self.now.book.now.index r m span) × (length roots.old ≡ span.count)))) }
-        ensures { Fills nodes.old (elements_run self.now.symbols self.now.book.now.bytes self.now.book.now.index r m (scope_of self.now.book.now.bytes self.now.book.now.index scope.now) span.stride span.from span.count) result roots.new nodes.new }
+        requires { (MarkedIn self.now r m) × ((ScopeIn self.now scope.now) × ((T (among row_marks m)) × ((Spanned self.now.book.now.bytes self.now.book.now.index r m span) × (length roots.old ≡ span.count)))) }
+        ensures { Fills nodes.old (elements_run self.now.symbols self.now.book.now.bytes self.now.book.now.index r m (patterns self.now scope.now) span.stride span.from span.count) result roots.new nodes.new }
     {
         for (k, root) in roots.iter_mut().enumerate() {
             let j = span.from + span.stride * k;
@@ -129,8 +128,8 @@ impl<'a> Lowering<'a> {
         scope: &ScopeBindings,
         nodes: &mut Nodes,
     ) -> Result<u16, Refusal>
-        requires { (Marked self.now.book.now.bytes self.now.book.now.index r m) × ((ScopeStands self.now.book.now.bytes self.now.book.now.index scope.now) × (InSpan self.now.book.now.bytes self.now.book.now.index r m j)) }
-        ensures { Done nodes.old (element_run self.now.symbols self.now.book.now.bytes self.now.book.now.index r m (scope_of self.now.book.now.bytes self.now.book.now.index scope.now) j) result nodes.new }
+        requires { (MarkedIn self.now r m) × ((ScopeIn self.now scope.now) × (InSpan self.now.book.now.bytes self.now.book.now.index r m j)) }
+        ensures { Done nodes.old (element_run self.now.symbols self.now.book.now.bytes self.now.book.now.index r m (patterns self.now scope.now) j) result nodes.new }
     {
         if m == EH {
             let a = arm_at(self.book, r, j - 1);
@@ -144,8 +143,8 @@ impl<'a> Lowering<'a> {
     // An arm of a match: its expression, where its pattern is bound.
     #[cycle(lowering)]
     fn arm(&self, r: u16, a: Arm, scope: &ScopeBindings, nodes: &mut Nodes) -> Result<u16, Refusal>
-        requires { (Stands self.now.book.now.bytes self.now.book.now.index a.pattern PATTERN) × ((Stands self.now.book.now.bytes self.now.book.now.index a.body EXPRESSION) × (ScopeStands self.now.book.now.bytes self.now.book.now.index scope.now)) }
-        ensures { Done nodes.old (binding r (scope_of self.now.book.now.bytes self.now.book.now.index scope.now) (lower self.now.symbols (expr_of self.now.book.now.bytes self.now.book.now.index a.body) (pattern_of self.now.book.now.bytes self.now.book.now.index a.pattern ∷ (scope_of self.now.book.now.bytes self.now.book.now.index scope.now)))) result nodes.new }
+        requires { (StandsIn self.now a.pattern PATTERN) × ((StandsIn self.now a.body EXPRESSION) × (ScopeIn self.now scope.now)) }
+        ensures { Done nodes.old (binding r (patterns self.now scope.now) (lower self.now.symbols (expr_of self.now.book.now.bytes self.now.book.now.index a.body) (pattern_of self.now.book.now.bytes self.now.book.now.index a.pattern ∷ (patterns self.now scope.now)))) result nodes.new }
     {
         if scope.count >= 256 {
             return Err(Refusal {
@@ -167,8 +166,8 @@ impl<'a> Lowering<'a> {
         scope: &ScopeBindings,
         nodes: &mut Nodes,
     ) -> Result<u16, Refusal>
-        requires { (Marked self.now.book.now.bytes self.now.book.now.index r m) × (ScopeStands self.now.book.now.bytes self.now.book.now.index scope.now) }
-        ensures { Done nodes.old (complete_run self.now.symbols self.now.book.now.bytes self.now.book.now.index r m (scope_of self.now.book.now.bytes self.now.book.now.index scope.now) inner) result nodes.new }
+        requires { (MarkedIn self.now r m) × (ScopeIn self.now scope.now) }
+        ensures { Done nodes.old (complete_run self.now.symbols self.now.book.now.bytes self.now.book.now.index r m (patterns self.now scope.now) inner) result nodes.new }
     {
         if m == EH {
             self.choose(r, inner, scope, nodes)
@@ -188,8 +187,8 @@ impl<'a> Lowering<'a> {
         scope: &ScopeBindings,
         nodes: &mut Nodes,
     ) -> Result<u16, Refusal>
-        requires { (Marked self.now.book.now.bytes self.now.book.now.index r EH) × (ScopeStands self.now.book.now.bytes self.now.book.now.index scope.now) }
-        ensures { Done nodes.old (complete_run self.now.symbols self.now.book.now.bytes self.now.book.now.index r EH (scope_of self.now.book.now.bytes self.now.book.now.index scope.now) cases) result nodes.new }
+        requires { (MarkedIn self.now r EH) × (ScopeIn self.now scope.now) }
+        ensures { Done nodes.old (complete_run self.now.symbols self.now.book.now.bytes self.now.book.now.index r EH (patterns self.now scope.now) cases) result nodes.new }
     {
         let e = self.book.field_at(r, 1);
         let s = self.expression(e, scope, nodes)?;
@@ -199,7 +198,7 @@ impl<'a> Lowering<'a> {
     // A call, after its arguments: its body, and then what joins them.
     #[cycle(lowering)]
     fn call(&self, r: u16, m: u8, arguments: u16, nodes: &mut Nodes) -> Result<u16, Refusal>
-        requires { (Marked self.now.book.now.bytes self.now.book.now.index r m) × (is_call m ≡ true) }
+        requires { (MarkedIn self.now r m) × (is_call m ≡ true) }
         ensures { Done nodes.old (call_run self.now.symbols self.now.book.now.bytes self.now.book.now.index r m arguments) result nodes.new }
     {
         let b = self.body(r, m, nodes)?;
@@ -209,7 +208,7 @@ impl<'a> Lowering<'a> {
     // The body of a call.
     #[cycle(lowering)]
     fn body(&self, r: u16, m: u8, nodes: &mut Nodes) -> Result<u16, Refusal>
-        requires { (Marked self.now.book.now.bytes self.now.book.now.index r m) × (is_call m ≡ true) }
+        requires { (MarkedIn self.now r m) × (is_call m ≡ true) }
         ensures { Done nodes.old (body_run self.now.symbols self.now.book.now.bytes self.now.book.now.index r m) result nodes.new }
     {
         if is_functional(m) {
@@ -224,7 +223,7 @@ impl<'a> Lowering<'a> {
     // A function's body, lowered anew for each call, in a scope of its parameters only.
     #[cycle(lowering)]
     fn function(&self, f: u16, nodes: &mut Nodes) -> Result<u16, Refusal>
-        requires { Stands self.now.book.now.bytes self.now.book.now.index f FUNCTION }
+        requires { StandsIn self.now f FUNCTION }
         ensures { Done nodes.old (body self.now.symbols (fun_of self.now.book.now.bytes self.now.book.now.index f)) result nodes.new }
     {
         let n = self.book.field_at(f, 1) as usize;
@@ -236,8 +235,8 @@ impl<'a> Lowering<'a> {
     // A match of two arms: both arms, the scrutinee, and then the case.
     #[cycle(lowering)]
     fn two_arms(&self, r: u16, scope: &ScopeBindings, nodes: &mut Nodes) -> Result<u16, Refusal>
-        requires { (Marked self.now.book.now.bytes self.now.book.now.index r EM) × (ScopeStands self.now.book.now.bytes self.now.book.now.index scope.now) }
-        ensures { Done nodes.old (lower self.now.symbols (expr_of self.now.book.now.bytes self.now.book.now.index r) (scope_of self.now.book.now.bytes self.now.book.now.index scope.now)) result nodes.new }
+        requires { (MarkedIn self.now r EM) × (ScopeIn self.now scope.now) }
+        ensures { Done nodes.old (lowered self.now r scope.now) result nodes.new }
     {
         let left = arm_at(self.book, r, 2);
         let right = arm_at(self.book, r, 4);
@@ -251,8 +250,8 @@ impl<'a> Lowering<'a> {
     // A block: its statements begun in order, its end, and the statements ended from the last on.
     #[cycle(lowering)]
     fn block(&self, r: u16, scope: &ScopeBindings, nodes: &mut Nodes) -> Result<u16, Refusal>
-        requires { (Marked self.now.book.now.bytes self.now.book.now.index r EB) × (ScopeStands self.now.book.now.bytes self.now.book.now.index scope.now) }
-        ensures { Done nodes.old (lower self.now.symbols (expr_of self.now.book.now.bytes self.now.book.now.index r) (scope_of self.now.book.now.bytes self.now.book.now.index scope.now)) result nodes.new }
+        requires { (MarkedIn self.now r EB) × (ScopeIn self.now scope.now) }
+        ensures { Done nodes.old (lowered self.now r scope.now) result nodes.new }
     {
         let count = self.book.field_at(r, 1) as usize;
         let mut begun = [0u16; 256];
@@ -269,8 +268,8 @@ impl<'a> Lowering<'a> {
     // The end of a block: an expression, or unit where there is none.
     #[cycle(lowering)]
     fn end(&self, r: u16, scope: &ScopeBindings, nodes: &mut Nodes) -> Result<u16, Refusal>
-        requires { (Marked self.now.book.now.bytes self.now.book.now.index r EB) × (ScopeStands self.now.book.now.bytes self.now.book.now.index scope.now) }
-        ensures { Done nodes.old (statements self.now.symbols r (stmts_of self.now.book.now.bytes self.now.book.now.index r (2 + field self.now.book.now.bytes self.now.book.now.index r 1) 0) (scope_of self.now.book.now.bytes self.now.book.now.index scope.now)) result nodes.new }
+        requires { (MarkedIn self.now r EB) × (ScopeIn self.now scope.now) }
+        ensures { Done nodes.old (statements self.now.symbols r (stmts_of self.now.book.now.bytes self.now.book.now.index r (2 + field self.now.book.now.bytes self.now.book.now.index r 1) 0) (patterns self.now scope.now)) result nodes.new }
     {
         let n = self.book.field_at(r, 1) as usize;
         let e = self.book.field_at(r, 2 + n);
@@ -284,8 +283,8 @@ impl<'a> Lowering<'a> {
     // A statement, up to the rest of its block.
     #[cycle(lowering)]
     fn begin(&self, s: u16, scope: &ScopeBindings, nodes: &mut Nodes) -> Result<u16, Refusal>
-        requires { (Stands self.now.book.now.bytes self.now.book.now.index s STATEMENT) × (ScopeStands self.now.book.now.bytes self.now.book.now.index scope.now) }
-        ensures { Done nodes.old (begin_run self.now.book.now.bytes self.now.book.now.index s self.now.symbols (scope_of self.now.book.now.bytes self.now.book.now.index scope.now)) result nodes.new }
+        requires { (StandsIn self.now s STATEMENT) × (ScopeIn self.now scope.now) }
+        ensures { Done nodes.old (begin_run self.now.book.now.bytes self.now.book.now.index s self.now.symbols (patterns self.now scope.now)) result nodes.new }
     {
         if self.book.mark_at(s) == SA {
             let e = self.book.field_at(s, 1);
@@ -299,8 +298,8 @@ impl<'a> Lowering<'a> {
 
     // The scope of the rest of a block after statement s.
     fn enter(&self, s: u16, scope: ScopeBindings) -> ScopeBindings
-        requires stands { Stands self.now.book.now.bytes self.now.book.now.index s STATEMENT }
-        requires scope_stands { ScopeStands self.now.book.now.bytes self.now.book.now.index scope }
+        requires stands { StandsIn self.now s STATEMENT }
+        requires scope_stands { ScopeIn self.now scope }
         ensures { Enters self.now.book.now.bytes self.now.book.now.index s scope result }
     {
         if self.book.mark_at(s) != SA || scope.count >= 256 {
