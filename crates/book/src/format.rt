@@ -2,7 +2,8 @@
 ghost use Rattle.std.specs.Prelude.{◌≡◌, ◌<◌, ◌≤◌};
 ghost use Rattle.book.specs.Format.{mark_of, kind_of, plan, laid, layout_of, role_of, total_of, Small, within, power_in, in_range};
 
-// Marks, numbered from 1 in the order of document 01's table.
+// Marks, numbered from 1 in the order of document 01's table; 0 is no mark. They are numbers and no enum: document 01 has the reader decide
+// by mark over number cases with ranges.
 pub const TU: u8 = 1;
 
 pub const TS: u8 = 2;
@@ -77,7 +78,7 @@ pub const CH: u8 = 36;
 
 pub const FN: u8 = 37;
 
-// Kinds of records. A field with one of these roles names a record of that kind.
+// Kinds of records, numbers for the same reason; 0 is the kind of no mark. A field with one of these roles names a record of that kind.
 pub const TYPE: u8 = 1;
 
 pub const VALUE: u8 = 2;

@@ -35,7 +35,7 @@ pub fn print_count<W: Write>(out: &mut W, word: &[u8], n: u64) -> io::Result<()>
     writeln!(out, " {n}")
 }
 
-// `refused`, the fault's number, `at`, the place.
+// `refused`, the fault's number, `at`, the place. No `impl Display`: no contract says what `fmt` writes, and this call promises its bytes.
 pub fn print_refusal<W: Write>(out: &mut W, why: Refusal) -> io::Result<()>
     ensures { OnOk result (Appends (W.contents out.old) (W.contents out.new) (refusal_line why)) }
 {

@@ -10,6 +10,7 @@ use book::fault::{Refusal, fault_number};
 use compile::lower;
 use run::{Outcome, run};
 
+// What C gets is a struct of numbers, and `probe`, which C links by itself, has one like it: the C interface needs both.
 // LOWER's answer in numbers: a success is number 0 at place 0 with its count of nodes; a refusal has count 0.
 #[repr(C)]
 #[derive(Clone, Copy)]

@@ -2,7 +2,8 @@
 use crate::entry::write_entry;
 use book::fault::{Fault, Refusal};
 
-// The kinds of nodes: document 01, Stored order.
+// The kinds of nodes: document 01, Stored order. They are numbers and no enum: they are bytes of the table, and document 01 has RUN and the
+// table check decide by kind over number cases.
 pub const IDEN: u8 = 1;
 
 pub const UNIT: u8 = 2;
@@ -71,7 +72,8 @@ impl<'a> Nodes<'a> {
             .saturating_sub(self.next as usize)
     }
 
-    // Stores a node for a record, if there is room for it, and answers its number.
+    // Stores a node for a record, if there is room for it, and answers its number. The record is an argument and no field: it changes with
+    // each step of LOWER, while the table stays.
     pub fn put(&mut self, place: u16, kind: u8, left: u16, right: u16) -> Result<u16, Refusal>
         ensures { Done self.old (emit place kind left right) result self.new }
     {

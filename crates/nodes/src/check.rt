@@ -87,7 +87,8 @@ fn fits_role(book: &Book, role: Role, n: u16, x: u16) -> bool
     }
 }
 
-// The first of `count` nodes with an operand that is not what its role says, or `count`.
+// The first of `count` nodes with an operand that is not what its role says, or `count`. Document 01 names the form: a scan with an inner
+// scan, left by a label.
 fn first_bad(book: &Book, nodes: &[u8], count: u16) -> u16
     requires { Valid book.now.bytes book.now.index book.now.records }
     ensures { result ≡ first_bad book.now nodes.now 0 count }

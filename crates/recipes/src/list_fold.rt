@@ -10,7 +10,8 @@ use book::fault::Refusal;
 use named::build::{applied, select};
 use named::node::{CASE, COMP, DROP, Nodes, PAIR, TAKE};
 
-// A block of twice the size: its first half, then its second.
+// A block of twice the size: its first half, then its second. The folds of a block, of a list and of an array are much alike, but each
+// stores its nodes in an order of its own, as the original does.
 fn next_f_array(nodes: &mut Nodes, place: u16, f: u16) -> Result<u16, Refusal>
     ensures { Done nodes.old (next_array place f) result nodes.new }
 {

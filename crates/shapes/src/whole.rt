@@ -133,6 +133,7 @@ fn block(book: &Book, r: u16, t: u16) -> bool
 {
     let n = book.field_at(r, 1) as usize;
     let end = book.field_at(r, 2 + n);
+    // The book has 65535 for no end.
     if end == 65535 {
         return is_unit(book, t);
     }
