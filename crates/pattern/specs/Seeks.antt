@@ -1,6 +1,6 @@
 -- What a search for a name promises: no path and no node, or the selector of the path, as far as there is room.
 -- Assumes nothing.
-use Rattle.std.specs.Prelude.{ℕ, ◌≡◌, List, length, get_or, Some, None, Result, Ok, Err}
+use Rattle.std.specs.Prelude.{ℕ, ◌≡◌, Bool, true, false, List, length, get_or, Some, None, Result, Ok, Err}
 use Rattle.std.specs.Prelude as std
 use Rattle.std.proofs.Math.Option.{Option, some, none}
 use Rattle.array.specs.Path.{Side}
@@ -47,13 +47,13 @@ pub record Seeks (r : ℕ) (d : Table) (w : Option (List Side)) (s : Sought) (d'
   pub kept : length d'.bytes.now ≡ length d.bytes.now
   pub fate : Fate r d w s d'
 
--- a row with an entry for each record there may be, 1 only where the pattern has no place of the name x
-pub record Memo (b i : List ℕ) (x : ℕ) (ms : List ℕ) : Type 0 where
+-- a row with an entry for each record there may be, true only where the pattern has no place of the name x
+pub record Memo (b i : List ℕ) (x : ℕ) (ms : List Bool) : Type 0 where
   pub size : length ms ≡ 4096
-  pub sound : (r : ℕ) → get_or ms r 0 ≡ 1 → find x (pattern_of b i r) ≡ none
+  pub sound : (r : ℕ) → get_or ms r false ≡ true → find x (pattern_of b i r) ≡ none
 
 -- a search for the name x that comes to w, with such a row; it leaves the row ms
-pub record Searches (b i : List ℕ) (x : ℕ) (w : Option (List Side)) (r : ℕ) (d : Table) (s : Sought) (d' : Table) (ms : List ℕ) : Type 0 where
+pub record Searches (b i : List ℕ) (x : ℕ) (w : Option (List Side)) (r : ℕ) (d : Table) (s : Sought) (d' : Table) (ms : List Bool) : Type 0 where
   pub memo : Memo b i x ms
   pub sought : Seeks r d w s d'
 

@@ -27,20 +27,20 @@ pub enum Near {
 // Each search stores the selector of the name that it finds, and nothing where it finds none.
 
 // Searches a pattern from the left. Patterns share their parts, so that a pattern may have more places than could ever be visited:
-// `missing` has a 1 for each record in which this name was already sought in vain, and no such record is entered again.
+// `missing` says of each record whether this name was already sought there in vain, and no such record is entered again.
 #[cycle(seeking)]
 pub fn get_from(
     book: &Book,
     p: u16,
     name: u16,
-    missing: &mut [u8],
+    missing: &mut [bool],
     nodes: &mut Nodes,
     place: u16,
 ) -> Result<Option<u16>, Refusal>
     requires { (Stands book.now.bytes book.now.index p PATTERN) × (Memo book.now.bytes book.now.index name missing.old) }
     ensures { Searches book.now.bytes book.now.index name (find name (pattern_of book.now.bytes book.now.index p)) place nodes.old result nodes.new missing.new }
 {
-    if missing[p as usize] == 1 {
+    if missing[p as usize] {
         return Ok(None);
     }
     match book.mark_at(p) {
@@ -59,7 +59,7 @@ fn get_row(
     book: &Book,
     p: u16,
     name: u16,
-    missing: &mut [u8],
+    missing: &mut [bool],
     nodes: &mut Nodes,
     place: u16,
 ) -> Result<Option<u16>, Refusal>
@@ -74,7 +74,7 @@ fn get_row(
             return Ok(Some(node));
         }
     }
-    missing[p as usize] = 1;
+    missing[p as usize] = true;
     Ok(None)
 }
 

@@ -99,7 +99,7 @@ impl ScopeBindings {
         requires from_in_range { from ≤ self.now.count }
         ensures { Seeks place nodes.old (lookup_below book.now.bytes book.now.index self.now.bindings self.now.count from name) result nodes.new }
     {
-        let mut missing = [0u8; 4096];
+        let mut missing = [false; 4096];
         self.get_newest(book, from, name, &mut missing, nodes, place)
     }
 
@@ -109,7 +109,7 @@ impl ScopeBindings {
         book: &Book,
         from: usize,
         name: u16,
-        missing: &mut [u8],
+        missing: &mut [bool],
         nodes: &mut Nodes,
         place: u16,
     ) -> Result<Option<u16>, Refusal>
@@ -157,7 +157,7 @@ fn get_bound(
     book: &Book,
     pattern: u16,
     name: u16,
-    missing: &mut [u8],
+    missing: &mut [bool],
     nodes: &mut Nodes,
     place: u16,
 ) -> Result<Option<u16>, Refusal>

@@ -11,8 +11,8 @@ use Rattle.pattern.proofs.Records.{finds_row, name_lies, name_found, name_missin
 use borrow.Author.Rules.{rules}
 use Rattle.pattern.proofs.+seeking.Goals as goal
 
-pub get_from-returns-then-missing-p-eq1 : goal.get_from-returns-then-missing-p-eq1
-get_from-returns-then-missing-p-eq1 t c = search known_missing
+pub get_from-returns-then-missing-p : goal.get_from-returns-then-missing-p
+get_from-returns-then-missing-p t c = search known_missing
 
 pub get_from-mark_at-requires : goal.get_from-mark_at-requires
 get_from-mark_at-requires t c = search stands_begins
