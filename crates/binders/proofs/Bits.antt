@@ -13,7 +13,7 @@ use lib.ListN.{length, get_or, set, replicate, length-set, get_or-eq_default}
 use lib.Pow.{shl_exact}
 use lib.Seq.{get_or-set_same, get_or-set_other}
 use Rattle.laws.specs.Table.{pick}
-use Rattle.pattern.proofs.Memos.{zero_at}
+use Rattle.pattern.proofs.Memos.{filled_at}
 use Rattle.binders.specs.Memos.{bit_of, width_of, word_of, marked, Marks}
 
 -- a one is moved to place j
@@ -82,7 +82,7 @@ word_same n p t q s = go (leb (32 * width_of n) t) refl (leb (32 * width_of n) s
 -- in a row of zeros no pair is marked
 pub marked_none : (n : ℕ) {memo : List ℕ} (p t : ℕ) → memo ≡ replicate n 0 → marked memo p t ≡ false
 unfolding marked
-marked_none n {memo} p t e = rw (zero_at n e (word_of (length memo) p t)) (bit_zero (t % 32))
+marked_none n {memo} p t e = rw (filled_at 0 n e (word_of (length memo) p t)) (bit_zero (t % 32))
 
 -- nor beyond the memo; and where it has a word, its bit tells
 module _ (memo : List ℕ) (p t : ℕ) {u : ℕ} (e : u ≡ word_of (length memo) p t) where

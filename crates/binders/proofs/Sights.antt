@@ -134,19 +134,19 @@ module _ {b i : List ℕ} {p t : ℕ} (d : Binds b i p t) where
   skips_element w j o y f q z e = skips_next w j o (omega arith) q z (rw f at e)
 
   -- the name is nowhere in it
-  sights_none : {x : ℕ} {ms : List ℕ} → Memo b i x ms → find x (pattern_of b i p) ≡ none → Sights b i x (pattern_of b i p) (type_of b i t) None ms
+  sights_none : {x : ℕ} {ms : List Bool} → Memo b i x ms → find x (pattern_of b i p) ≡ none → Sights b i x (pattern_of b i p) (type_of b i t) None ms
   sights_none v e = record { memo = v; seen = absent e }
 
   -- it was sought there in vain before
-  pub sights_known : {x : ℕ} {ms : List ℕ} → Memo b i x ms → get_or ms p 0 ≡ 1 → Sights b i x (pattern_of b i p) (type_of b i t) None ms
+  pub sights_known : {x : ℕ} {ms : List Bool} → Memo b i x ms → get_or ms p false ≡ true → Sights b i x (pattern_of b i p) (type_of b i t) None ms
   sights_known v e = sights_none v (v.sound p e)
 
   -- all elements of its row were searched in vain
-  pub sights_row : {x n k : ℕ} {a : ℕ → Pat} {ms : List ℕ} → Memo b i x ms → Skips x (pattern_of b i p) 1 a 1 n k → n ≤ k → Sights b i x (pattern_of b i p) (type_of b i t) None (set ms p 1)
+  pub sights_row : {x n k : ℕ} {a : ℕ → Pat} {ms : List Bool} → Memo b i x ms → Skips x (pattern_of b i p) 1 a 1 n k → n ≤ k → Sights b i x (pattern_of b i p) (type_of b i t) None (set ms p true)
   sights_row v w o = sights_none (memo_more p v (skips_all w o)) (skips_all w o)
 
   -- no row is entered: the pattern is the name, is another, or has none
-  module _ (m : ℕ) (is : m ≡ mark b i p) {x : ℕ} {ms : List ℕ} (v : Memo b i x ms) where
+  module _ (m : ℕ) (is : m ≡ mark b i p) {x : ℕ} {ms : List Bool} (v : Memo b i x ms) where
     pub sights_name : (y : ℕ) → m ≡ PI → y ≡ field b i p 0 → y ≡ x → Sights b i x (pattern_of b i p) (type_of b i t) (Some t) ms
     unfolding leads
     sights_name y e f o = record { memo = v; seen = present [] d.type (finds_name d.pattern x (sym is ∙ e) ∙ name_is x _ y f o) refl }
@@ -166,7 +166,7 @@ module _ {b i : List ℕ} {p : ℕ} (h : Stands b i p PATTERN) (x m : ℕ) (is :
   ignored_not g o = finds_none h x (λ e. eqb-false m PT o (is ∙ e)) (λ e. g (is ∙ e))
 
 -- what the search in an element, record u, left: it goes on in the row, or ends there
-module _ {b i : List ℕ} {p t n k u s x : ℕ} {r : Answer ℕ} {ms : List ℕ} (w : Skips x (pattern_of b i p) 1 (λ j. pattern_of b i (field b i p j)) 1 n k) (d : Element b i p t n k u s) (h : Sights b i x (pattern_of b i u) (type_of b i s) r ms) (j : ℕ) (o : k < n) (y : j ≡ 1 + k) (f : u ≡ field b i p j) where
+module _ {b i : List ℕ} {p t n k u s x : ℕ} {r : Answer ℕ} {ms : List Bool} (w : Skips x (pattern_of b i p) 1 (λ j. pattern_of b i (field b i p j)) 1 n k) (d : Element b i p t n k u s) (h : Sights b i x (pattern_of b i u) (type_of b i s) r ms) (j : ℕ) (o : k < n) (y : j ≡ 1 + k) (f : u ≡ field b i p j) where
   pub element_none : (q : ℕ) → q ≡ k + 1 → is_some r ≡ false → Memo b i x ms × Skips x (pattern_of b i p) 1 (λ j. pattern_of b i (field b i p j)) 1 n q
   element_none q z e = (h.memo, skips_next w j o (omega arith) q z (rw f at (seen_none h.seen e)))
 

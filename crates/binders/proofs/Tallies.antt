@@ -13,34 +13,33 @@ use Rattle.laws.specs.Table.{pick, true_false}
 use Rattle.book.specs.Stands.{Stands}
 use Rattle.book.specs.Tree.{pattern_of}
 use Rattle.book.proofs.Standing.{stands_few}
-use Rattle.pattern.proofs.Memos.{zero_at, zero_size}
+use Rattle.pattern.proofs.Memos.{filled_at, filled_size}
 use Rattle.binders.specs.Binders.{names, twice}
 use Rattle.binders.specs.Memos.{Met, met, Nameless, times, Tally, Notes}
 use Rattle.binders.specs.declared.Noted.{Noted}
 use Rattle.binders.specs.declared.Noted.TheVariants as notes
 use Rattle.binders.proofs.Names.{times_both, times_one, twice_yes, twice_no, after, after_next, after_none}
 
--- a row of zeros has no name, and knows no record
-module _ (ns : List ℕ) where
-  pub met_none : ns ≡ replicate 65536 0 → Met 0 ns
-  met_none e = record { size = zero_size 65536 e; most = λ x. omega (arith, zero_at 65536 e x) }
+-- a row of zeros has no name, and a row of false knows no record
+pub met_none : (ns : List ℕ) → ns ≡ replicate 65536 0 → Met 0 ns
+met_none ns e = record { size = filled_size 0 65536 e; most = λ x. omega (arith, filled_at 0 65536 e x) }
 
-  pub nameless_none : (b i : List ℕ) → ns ≡ replicate 4096 0 → Nameless b i ns
-  nameless_none b i e = record {
-    size = zero_size 4096 e;
-    sound = λ r z. absurd (omega (arith, zero_at 4096 e r));
-  }
+pub nameless_none : (ms : List Bool) (b i : List ℕ) → ms ≡ replicate 4096 false → Nameless b i ms
+nameless_none ms b i e = record {
+  size = filled_size false 4096 e;
+  sound = λ r z. absurd (true_false (sym z ∙ filled_at false 4096 e r));
+}
 
 -- one more record without names
-pub nameless_more : {b i ms : List ℕ} → Nameless b i ms → (p : ℕ) → names (pattern_of b i p) ≡ [] → Nameless b i (set ms p 1)
-nameless_more {b} {i} {ms} m p e = record { size = length-set ms p 1 ∙ m.size; sound = λ r z. go r z (eqb r p) refl }
+pub nameless_more : {b i : List ℕ} {ms : List Bool} → Nameless b i ms → (p : ℕ) → names (pattern_of b i p) ≡ [] → Nameless b i (set ms p true)
+nameless_more {b} {i} {ms} m p e = record { size = length-set ms p true ∙ m.size; sound = λ r z. go r z (eqb r p) refl }
   where
-    go : (r : ℕ) → get_or (set ms p 1) r 0 ≡ 1 → (t : Bool) → eqb r p ≡ t → names (pattern_of b i r) ≡ []
+    go : (r : ℕ) → get_or (set ms p true) r false ≡ true → (t : Bool) → eqb r p ≡ t → names (pattern_of b i r) ≡ []
     go r z true q = rw (eqb-true r p q) e
-    go r z false q = m.sound r (sym (get_or-set_other ms p r 1 0 (eqb-false r p q)) ∙ z)
+    go r z false q = m.sound r (sym (get_or-set_other ms p r true false (eqb-false r p q)) ∙ z)
 
 -- that row has an entry for a record that stands
-pub nameless_fits : {b i ms : List ℕ} {p kd : ℕ} → Nameless b i ms → Stands b i p kd → p < length ms
+pub nameless_fits : {b i : List ℕ} {ms : List Bool} {p kd : ℕ} → Nameless b i ms → Stands b i p kd → p < length ms
 nameless_fits m s = omega (arith, stands_few s, m.size)
 
 -- a name that was met with this stamp, and one that was not

@@ -1,6 +1,6 @@
 -- What the code holds of patterns beside types: the pairs that are known to fit, the names that were met, the row of live bindings.
 -- Assumes nothing.
-use Rattle.std.specs.Prelude.{ℕ, zero, suc, ◌+◌, ◌*◌, ◌/◌, ◌%◌, ◌^◌, ◌≤◌, ◌<◌, Bool, true, List, [], ◌∷◌, ◌⊎◌, ◌≡◌, eqb, leb, length, get_or, Option, Some, None}
+use Rattle.std.specs.Prelude.{ℕ, zero, suc, ◌+◌, ◌*◌, ◌/◌, ◌%◌, ◌^◌, ◌≤◌, ◌<◌, Bool, true, false, List, [], ◌∷◌, ◌⊎◌, ◌≡◌, eqb, leb, length, get_or, Option, Some, None}
 use Rattle.std.proofs.Math.Option.{some, none}
 use Rattle.laws.specs.Table.{pick}
 use Rattle.array.specs.Path.{Side}
@@ -51,7 +51,7 @@ pub data Seen (b i : List ℕ) (x : ℕ) (p : Pat) (t : Ty) : Option ℕ → Typ
   present : {s : ℕ} (ks : List Side) → Stands b i s TYPE → find x p ≡ some ks → leads products ks t ≡ some (type_of b i s) → Seen b i x p t (Some s)
 
 -- and the row of what was sought in vain that the search left
-pub record Sights (b i : List ℕ) (x : ℕ) (p : Pat) (t : Ty) (s : Option ℕ) (ms : List ℕ) : Type 0 where
+pub record Sights (b i : List ℕ) (x : ℕ) (p : Pat) (t : Ty) (s : Option ℕ) (ms : List Bool) : Type 0 where
   pub memo : Memo b i x ms
   pub seen : Seen b i x p t s
 
@@ -64,10 +64,10 @@ pub record Met (stamp : ℕ) (ns : List ℕ) : Type 0 where
 unfoldable pub met : ℕ → List ℕ → ℕ → ℕ
 met stamp ns x = pick (eqb (get_or ns x 0) stamp) 1 0
 
--- a row with an entry for each record there may be, 1 only where the pattern has no names
-pub record Nameless (b i ms : List ℕ) : Type 0 where
+-- a row with an entry for each record there may be, true only where the pattern has no names
+pub record Nameless (b i : List ℕ) (ms : List Bool) : Type 0 where
   pub size : length ms ≡ 4096
-  pub sound : (r : ℕ) → get_or ms r 0 ≡ 1 → names (pattern_of b i r) ≡ []
+  pub sound : (r : ℕ) → get_or ms r false ≡ true → names (pattern_of b i r) ≡ []
 
 -- how often x stands in a row of names
 unfoldable pub times : ℕ → List ℕ → ℕ
@@ -85,7 +85,7 @@ pub record Notes (stamp : ℕ) (xs ns : List ℕ) (s : Noted) (ns' : List ℕ) :
   pub tally : Tally stamp xs ns s ns'
 
 -- and the row of records without names that this left
-pub record Tallies (b i : List ℕ) (stamp : ℕ) (xs ns : List ℕ) (s : Noted) (ns' ms' : List ℕ) : Type 0 where
+pub record Tallies (b i : List ℕ) (stamp : ℕ) (xs ns : List ℕ) (s : Noted) (ns' : List ℕ) (ms' : List Bool) : Type 0 where
   pub nameless : Nameless b i ms'
   pub notes : Notes stamp xs ns s ns'
 
@@ -101,15 +101,15 @@ pattern_twice b i r = twice (names (pattern_of b i r))
 abbrev pub params_twice : List ℕ → List ℕ → ℕ → Bool
 params_twice b i r = twice (param_names (params_of (fun_of b i r)))
 
--- a row that has for each pattern and each function among the first n records whether a name stands in it twice: 1 or 0; behind them it has zeros
-pub record Doubled (b i : List ℕ) (n : ℕ) (ds : List ℕ) : Type 0 where
+-- a row that has for each pattern and each function among the first n records whether a name stands in it twice; behind them it has false
+pub record Doubled (b i : List ℕ) (n : ℕ) (ds : List Bool) : Type 0 where
   pub size : length ds ≡ 4096
-  pub patterns : (r : ℕ) → r < n → kind b i r ≡ PATTERN → get_or ds r 0 ≡ pick (pattern_twice b i r) 1 0
-  pub functions : (r : ℕ) → r < n → kind b i r ≡ FUNCTION → get_or ds r 0 ≡ pick (params_twice b i r) 1 0
-  pub beyond : (r : ℕ) → n ≤ r → get_or ds r 0 ≡ 0
+  pub patterns : (r : ℕ) → r < n → kind b i r ≡ PATTERN → get_or ds r false ≡ pattern_twice b i r
+  pub functions : (r : ℕ) → r < n → kind b i r ≡ FUNCTION → get_or ds r false ≡ params_twice b i r
+  pub beyond : (r : ℕ) → n ≤ r → get_or ds r false ≡ false
 
 -- what was found of record r, and the rows that the search left: no name was met with a stamp greater than the record's
-pub record Repeats (b i : List ℕ) (r : ℕ) (f : Bool) (ns' ms' : List ℕ) : Type 0 where
+pub record Repeats (b i : List ℕ) (r : ℕ) (f : Bool) (ns' : List ℕ) (ms' : List Bool) : Type 0 where
   pub pattern : kind b i r ≡ PATTERN → f ≡ pattern_twice b i r
   pub function : kind b i r ≡ FUNCTION → f ≡ params_twice b i r
   pub row : Met (r + 1) ns'

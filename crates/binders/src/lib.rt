@@ -17,7 +17,6 @@ ghost use Rattle.binders.specs.Memos.{width_of, word_of, marked, Known, Marks, F
 
 use book::format::{FN, PI, PN, PT, TP};
 use book::record::Book;
-use named::table::clear;
 use shapes::part::{is_unit, place};
 
 // How many words of the memo a pattern has: a bit for each type that there may be, in a small book or in a large one.
@@ -128,14 +127,14 @@ fn note(name: u16, met: &mut [u16], stamp: u16) -> Noted
     Noted::Named
 }
 
-// Meets the names of a pattern: `nameless` has a 1 for each record that was found to have none. A record with names that is met
+// Meets the names of a pattern: `nameless` says of each record whether it was found to have none. A record with names that is met
 // again leads straight to a name that was met.
 #[cycle(noting)]
-fn note_all(book: &Book, p: u16, met: &mut [u16], stamp: u16, nameless: &mut [u8]) -> Noted
+fn note_all(book: &Book, p: u16, met: &mut [u16], stamp: u16, nameless: &mut [bool]) -> Noted
     requires { (Stands book.now.bytes book.now.index p PATTERN) × ((Met stamp met.old) × (Nameless book.now.bytes book.now.index nameless.old)) }
     ensures { Tallies book.now.bytes book.now.index stamp (names (pattern_of book.now.bytes book.now.index p)) met.old result met.new nameless.new }
 {
-    if nameless[p as usize] == 1 {
+    if nameless[p as usize] {
         return Noted::Unnamed;
     }
     let mark = book.mark_at(p);
@@ -151,7 +150,7 @@ fn note_all(book: &Book, p: u16, met: &mut [u16], stamp: u16, nameless: &mut [u8
 
 // The same for a row: its elements one after another.
 #[cycle(noting)]
-fn note_row(book: &Book, p: u16, met: &mut [u16], stamp: u16, nameless: &mut [u8]) -> Noted
+fn note_row(book: &Book, p: u16, met: &mut [u16], stamp: u16, nameless: &mut [bool]) -> Noted
     requires { (Stands book.now.bytes book.now.index p PATTERN) × ((mark book.now.bytes book.now.index p ≡ PT) × ((Met stamp met.old) × (Nameless book.now.bytes book.now.index nameless.old))) }
     ensures { Tallies book.now.bytes book.now.index stamp (names (pattern_of book.now.bytes book.now.index p)) met.old result met.new nameless.new }
 {
@@ -168,12 +167,12 @@ fn note_row(book: &Book, p: u16, met: &mut [u16], stamp: u16, nameless: &mut [u8
     if any {
         return Noted::Named;
     }
-    nameless[p as usize] = 1;
+    nameless[p as usize] = true;
     Noted::Unnamed
 }
 
 // The record that has all names of a row: none, the one part of it that bears names, or the row itself.
-fn bearer(book: &Book, p: u16, nameless: &[u8]) -> Option<u16>
+fn bearer(book: &Book, p: u16, nameless: &[bool]) -> Option<u16>
     requires stands { Stands book.now.bytes book.now.index p PATTERN }
     requires mark_is { mark book.now.bytes book.now.index p ≡ PT }
     requires nameless { Nameless book.now.bytes book.now.index nameless.now }
@@ -183,7 +182,7 @@ fn bearer(book: &Book, p: u16, nameless: &[u8]) -> Option<u16>
     let mut only = None;
     for k in 0..n {
         let part = book.field_at(p, 1 + k);
-        if nameless[part as usize] != 1 {
+        if !nameless[part as usize] {
             if only.is_some() {
                 return Some(p);
             }
@@ -195,7 +194,7 @@ fn bearer(book: &Book, p: u16, nameless: &[u8]) -> Option<u16>
 
 // Whether a row has a name twice. Where one part alone bears names, that part's answer is the row's, so that a chain of rows is not
 // walked again for each of them. The names are met with a stamp of the row's own.
-fn repeats(book: &Book, p: u16, met: &mut [u16], nameless: &mut [u8], doubled: &[u8]) -> bool
+fn repeats(book: &Book, p: u16, met: &mut [u16], nameless: &mut [bool], doubled: &[bool]) -> bool
     requires stands { Stands book.now.bytes book.now.index p PATTERN }
     requires mark_is { mark book.now.bytes book.now.index p ≡ PT }
     requires met { Met p met.old }
@@ -204,11 +203,11 @@ fn repeats(book: &Book, p: u16, met: &mut [u16], nameless: &mut [u8], doubled: &
     ensures { Repeats book.now.bytes book.now.index p result met.new nameless.new }
 {
     let Some(s) = bearer(book, p, nameless) else {
-        nameless[p as usize] = 1;
+        nameless[p as usize] = true;
         return false;
     };
     if s != p {
-        return doubled[s as usize] == 1;
+        return doubled[s as usize];
     }
     match note_all(book, p, met, p + 1, nameless) {
         Noted::Twice => true,
@@ -236,7 +235,7 @@ fn params_repeat(book: &Book, f: u16, met: &mut [u16]) -> bool
 }
 
 // Whether record r is a pattern or a function with a name twice. The stamps of the records before it are lower than its own.
-fn doubled_at(book: &Book, r: u16, met: &mut [u16], nameless: &mut [u8], doubled: &[u8]) -> bool
+fn doubled_at(book: &Book, r: u16, met: &mut [u16], nameless: &mut [bool], doubled: &[bool]) -> bool
     requires stands { Stands book.now.bytes book.now.index r (kind book.now.bytes book.now.index r) }
     requires met { Met r met.old }
     requires nameless { Nameless book.now.bytes book.now.index nameless.old }
@@ -251,35 +250,35 @@ fn doubled_at(book: &Book, r: u16, met: &mut [u16], nameless: &mut [u8], doubled
         return params_repeat(book, r, met);
     }
     if m == PN {
-        nameless[r as usize] = 1;
+        nameless[r as usize] = true;
     }
     false
 }
 
 // Marks each of the first n records that is a pattern or a function with a name twice. It is worked out before they are judged, so that
 // one row of names serves the whole book. What is found to have no names is known to all patterns.
-pub fn doubles(book: &Book, n: u16, doubled: &mut [u8])
+pub fn doubles(book: &Book, n: u16, doubled: &mut [bool])
     requires valid { Valid book.now.bytes book.now.index n }
-    requires doubled_is { doubled.old ≡ replicate 4096 0 }
+    requires doubled_is { doubled.old ≡ replicate 4096 false }
     ensures { Doubled book.now.bytes book.now.index n doubled.new }
 {
     let mut met = [0u16; 65536];
-    let mut nameless = [0u8; 4096];
+    let mut nameless = [false; 4096];
     for r in 0..n {
         if doubled_at(book, r, &mut met, &mut nameless, doubled) {
-            doubled[r as usize] = 1;
+            doubled[r as usize] = true;
         }
     }
 }
 
-// The type of a name in a pattern that fits a type, at its first place from the left. `missing` has a 1 for each record in which this
-// name was already sought in vain.
+// The type of a name in a pattern that fits a type, at its first place from the left. `missing` says of each record whether this
+// name was already sought there in vain.
 #[cycle(sighting)]
-fn type_in(book: &Book, p: u16, t: u16, name: u16, missing: &mut [u8]) -> Option<u16>
+fn type_in(book: &Book, p: u16, t: u16, name: u16, missing: &mut [bool]) -> Option<u16>
     requires { (Binds book.now.bytes book.now.index p t) × (Memo book.now.bytes book.now.index name missing.old) }
     ensures { Sights book.now.bytes book.now.index name (pattern_of book.now.bytes book.now.index p) (type_of book.now.bytes book.now.index t) result missing.new }
 {
-    if missing[p as usize] == 1 {
+    if missing[p as usize] {
         return None;
     }
     let mark = book.mark_at(p);
@@ -294,12 +293,12 @@ fn type_in(book: &Book, p: u16, t: u16, name: u16, missing: &mut [u8]) -> Option
 
 // Whether a pattern may have a name: it is that name, or a row in which it was not sought in vain. Most elements of a wide row are
 // passed so, without the way down to their type.
-fn may_have(book: &Book, p: u16, name: u16, missing: &[u8]) -> bool
+fn may_have(book: &Book, p: u16, name: u16, missing: &[bool]) -> bool
     requires stands { Stands book.now.bytes book.now.index p PATTERN }
     requires memo { Memo book.now.bytes book.now.index name missing.now }
     ensures { result ≡ false → find name (pattern_of book.now.bytes book.now.index p) ≡ none }
 {
-    if missing[p as usize] == 1 {
+    if missing[p as usize] {
         return false;
     }
     let mark = book.mark_at(p);
@@ -311,7 +310,7 @@ fn may_have(book: &Book, p: u16, name: u16, missing: &[u8]) -> bool
 
 // The same for a row: its elements one after another, each with the type at its place.
 #[cycle(sighting)]
-fn type_in_row(book: &Book, p: u16, t: u16, name: u16, missing: &mut [u8]) -> Option<u16>
+fn type_in_row(book: &Book, p: u16, t: u16, name: u16, missing: &mut [bool]) -> Option<u16>
     requires { (Binds book.now.bytes book.now.index p t) × ((mark book.now.bytes book.now.index p ≡ PT) × (Memo book.now.bytes book.now.index name missing.old)) }
     ensures { Sights book.now.bytes book.now.index name (pattern_of book.now.bytes book.now.index p) (type_of book.now.bytes book.now.index t) result missing.new }
 {
@@ -327,7 +326,7 @@ fn type_in_row(book: &Book, p: u16, t: u16, name: u16, missing: &mut [u8]) -> Op
             }
         }
     }
-    missing[p as usize] = 1;
+    missing[p as usize] = true;
     None
 }
 
@@ -353,13 +352,13 @@ fn newest_type(
     live: usize,
     base: Option<u16>,
     name: u16,
-    missing: &mut [u8],
+    missing: &mut [bool],
 ) -> Option<u16>
     requires live { Live book.now.bytes book.now.index bindings.now live base }
     requires missing_length { length missing.old ≡ 4096 }
     ensures { (Newest book.now.bytes book.now.index bindings.now live base name result) × (length missing.new ≡ 4096) }
 {
-    clear(missing);
+    missing.fill(false);
     for at in (0..live).rev() {
         let p = bindings[2 * at];
         let t = bindings[2 * at + 1];
@@ -378,7 +377,7 @@ pub fn type_for(
     live: usize,
     base: Option<u16>,
     name: u16,
-    missing: &mut [u8],
+    missing: &mut [bool],
 ) -> Option<u16>
     requires live { Live book.now.bytes book.now.index bindings.now live base }
     requires missing_length { length missing.old ≡ 4096 }

@@ -10,7 +10,6 @@ use lib.Dec.{eqb}
 use lib.ListN.{length, get_or}
 use Rattle.std.specs.Prelude.{Ok, Err, Option as Answer, Some, None}
 use Rattle.std.specs.Result.{result_and}
-use Rattle.laws.specs.Table.{pick}
 use Rattle.simplicity.specs.Types.{same}
 use Rattle.book.specs.Faults.{refusal}
 use Rattle.book.specs.Format.{TYPE, PATTERN, EXPRESSION, FUNCTION, SA, EV, FN}
@@ -24,7 +23,7 @@ use Rattle.pattern.specs.Find.{params_of}
 use Rattle.shapes.specs.Shapes.{type_is}
 use Rattle.shapes.specs.Views.{Gives}
 use Rattle.binders.specs.Binders.{fits, names, binding, twice, param_names, scope_in, type_for}
-use Rattle.binders.specs.Memos.{Known, Fitted, pattern_twice, params_twice, Live, scope_of}
+use Rattle.binders.specs.Memos.{Known, Fitted, Live, scope_of}
 use Rattle.typing.specs.Check.{Checked, hold, agree, binds, known, check, check_fun}
 use Rattle.typing.specs.Cycle.{Rows, Scoped, Enough, Stays, Holds, Bound, live_after}
 use Rattle.typing.specs.declared.cycle.Judge.{Judge}
@@ -36,14 +35,14 @@ use Rattle.typing.proofs.Steps.{stays_of, both_halt, both_last}
 
 -- a variable that is in scope, and one that is not: the search has written into the row of what was sought in vain
 module _ {b i : List ℕ} {q : Judge} {n : ℕ} {base : Answer ℕ} (s : Scoped b i q n base) {r : ℕ} (g : Marked b i r EV) (x : ℕ) (z : x ≡ field b i r 1) where
-  sought : {a : Checked} {ms : List ℕ} → a ≡ check (expr_of b i r) (scope_of b i q.bindings n base) → length ms ≡ 4096 → Stays b i (check (expr_of b i r) (scope_of b i q.bindings n base)) n q a (record q { vain = ms })
+  sought : {a : Checked} {ms : List Bool} → a ≡ check (expr_of b i r) (scope_of b i q.bindings n base) → length ms ≡ 4096 → Stays b i (check (expr_of b i r) (scope_of b i q.bindings n base)) n q a (record q { vain = ms })
   sought e l = record { is = e; doubled = refl; known = s.rows.known; missing = l; kept = refl; before = λ j h. refl }
 
-  pub variable_none : {ms : List ℕ} → Gives b i (type_for x (scope_of b i q.bindings n base)) None → length ms ≡ 4096 → Stays b i (check (expr_of b i r) (scope_of b i q.bindings n base)) n q (Err (refusal faults.Undefined r)) (record q { vain = ms })
+  pub variable_none : {ms : List Bool} → Gives b i (type_for x (scope_of b i q.bindings n base)) None → length ms ≡ 4096 → Stays b i (check (expr_of b i r) (scope_of b i q.bindings n base)) n q (Err (refusal faults.Undefined r)) (record q { vain = ms })
   unfolding known
   variable_none d = sought (sym (variable_is b i r (scope_of b i q.bindings n base) g ∙ rw (← z, gives_none d)))
 
-  pub variable_some : {y : ℕ} (t : ℕ) {a : Checked} {ms : List ℕ} → Gives b i (type_for x (scope_of b i q.bindings n base)) (Some y) → t ≡ field b i r 0 → a ≡ agree (eqb t y) r → length ms ≡ 4096 → Stays b i (check (expr_of b i r) (scope_of b i q.bindings n base)) n q a (record q { vain = ms })
+  pub variable_some : {y : ℕ} (t : ℕ) {a : Checked} {ms : List Bool} → Gives b i (type_for x (scope_of b i q.bindings n base)) (Some y) → t ≡ field b i r 0 → a ≡ agree (eqb t y) r → length ms ≡ 4096 → Stays b i (check (expr_of b i r) (scope_of b i q.bindings n base)) n q a (record q { vain = ms })
   unfolding known
   variable_some t d o l =
       let k : Stands b i t TYPE = rw o (head_stands g.stands EV g.is 0 tt tt) in
@@ -52,11 +51,6 @@ module _ {b i : List ℕ} {q : Judge} {n : ℕ} {base : Answer ℕ} (s : Scoped 
 -- the row that says which records have a name twice has an entry for each that stands
 pub doubled_long : {b i : List ℕ} {q : Judge} {r kd : ℕ} → Rows b i q → Stands b i r kd → r < length q.doubled.now
 doubled_long o k = omega (arith, stands_few k, o.long)
-
--- what such an entry says
-once_told : {v : ℕ} (t : Bool) → v ≡ pick t 1 0 → eqb v 0 ≡ not t
-once_told true h = rw h
-once_told false h = rw h
 
 -- another memo and another row of bindings, and the rest as it was
 pub record Beside (q : Judge) (m bs : List ℕ) (q' : Judge) : Type 0 where
@@ -81,9 +75,9 @@ module _ {b i : List ℕ} {q : Judge} {n : ℕ} {base : Answer ℕ} (s : Scoped 
   unfolding binds
   bind_unfit h = unbound (first_halts _ h fit_told) (handed_not h)
 
-  module _ (u : x ≡ Ok tt) {y : Checked} (w : y ≡ hold (eqb (get_or q.doubled.now p 0) 0) faults.Name r) where
+  module _ (u : x ≡ Ok tt) {y : Checked} (w : y ≡ hold (not (get_or q.doubled.now p false)) faults.Name r) where
     once_is : y ≡ hold (not (twice (names (pattern_of b i p)))) faults.Name r
-    once_is = w ∙ ap (λ z. hold z faults.Name r) (once_told (pattern_twice b i p) (s.rows.patterns p k))
+    once_is = w ∙ ap (λ z. hold (not z) faults.Name r) (s.rows.patterns p k)
 
     bind_is : y ≡ binds r (pattern_of b i p) (type_of b i t)
     unfolding binds
@@ -134,9 +128,9 @@ module _ {b i : List ℕ} {f : ℕ} (k : Stands b i f FUNCTION) where
   pub fun_live : {bs : List ℕ} → Live b i bs 0 (Some f)
   fun_live = record { room = omega arith; each = λ j h. absurd (omega arith); based = λ g e. let z : f ≡ g = cc in subst (λ h. Stands b i h FUNCTION) z k }
 
-  module _ {q : Judge} (o : Rows b i q) {y : Checked} (w : y ≡ hold (eqb (get_or q.doubled.now f 0) 0) faults.Name f) where
+  module _ {q : Judge} (o : Rows b i q) {y : Checked} (w : y ≡ hold (not (get_or q.doubled.now f false)) faults.Name f) where
     once_of : y ≡ hold (not (twice (param_names (params_of (fun_of b i f))))) faults.Name f
-    once_of = w ∙ ap (λ z. hold z faults.Name f) (once_told (params_twice b i f) (o.functions f k))
+    once_of = w ∙ ap (λ z. hold (not z) faults.Name f) (o.functions f k)
 
     pub fun_twice : {a : Checked} → Handed y a → Stays b i (check_fun (fun_of b i f)) 0 q a q
     fun_twice h = at_once o (first_halts _ h once_of ∙ sym (fun_is _ _ refl refl))

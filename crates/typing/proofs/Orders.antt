@@ -8,7 +8,7 @@ use mathlib.Core.List.{List, [], ◌∷◌}
 use mathlib.Core.Path.{◌≡◌, refl, sym, ap, ◌∙◌}
 use native.Mathlib.Omega.{arith}
 use borrow.Author.Tests.{ne_eqb}
-use lib.ListN.{length, get_or, replicate, length-replicate}
+use lib.ListN.{length, get_or}
 use Rattle.std.specs.Prelude.{Ok, Err, None}
 use Rattle.std.specs.Result.{result_and}
 use Rattle.laws.specs.Order.{by_lt}
@@ -169,10 +169,6 @@ rows_first {n = n} v w d k m l = record {
   missing = m;
   room = l;
 }
-
--- a row of zeros is as long as it is said to be
-pub zeros_long : {ms : List ℕ} (n : ℕ) → ms ≡ replicate n 0 → length ms ≡ n
-zeros_long n e = ap length e ∙ length-replicate {A = ℕ} n 0
 
 -- the records of a book that READ accepts lie end to end
 answer_tiles : (b : List ℕ) (n : ℕ) → read_of b ≡ Ok n → Tiles b (index_of b) n

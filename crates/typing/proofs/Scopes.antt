@@ -1,6 +1,7 @@
 -- Laws of the row of live bindings: it makes the same scope as long as they stay, and one more makes the scope wider.
 -- Assumes nothing.
 use Prim.Native.Nat.{ℕ, zero, suc, ◌+◌, ◌*◌, ◌<◌}
+use mathlib.Core.Bool.{false}
 use mathlib.Core.List.{List, ◌∷◌}
 use mathlib.Core.Path.{◌≡◌, refl, ap, ◌∙◌}
 use native.Mathlib.Omega.{arith}
@@ -38,8 +39,8 @@ module _ {b i : List ℕ} {v : Checked} {n : ℕ} {q : Judge} {c : Checked} {q' 
   pub stays_rows : Rows b i q → Rows b i q'
   stays_rows h = record {
     long = ap length s.doubled ∙ h.long;
-    patterns = λ r k. ap (λ ds. get_or ds r 0) s.doubled ∙ h.patterns r k;
-    functions = λ r k. ap (λ ds. get_or ds r 0) s.doubled ∙ h.functions r k;
+    patterns = λ r k. ap (λ ds. get_or ds r false) s.doubled ∙ h.patterns r k;
+    functions = λ r k. ap (λ ds. get_or ds r false) s.doubled ∙ h.functions r k;
     known = s.known;
     missing = s.missing;
     room = s.kept ∙ h.room;

@@ -1,6 +1,6 @@
 -- What each function of CHECK's cycle does, by the mark of its record, and what it asks of the rows that it is lent.
 -- Assumes nothing.
-use Rattle.std.specs.Prelude.{ℕ, zero, suc, ◌+◌, ◌*◌, ◌≤◌, ◌<◌, ◌≡◌, true, List, ◌∷◌, eqb, length, get_or, Ok, Option}
+use Rattle.std.specs.Prelude.{ℕ, zero, suc, ◌+◌, ◌*◌, ◌≤◌, ◌<◌, ◌≡◌, true, false, List, ◌∷◌, eqb, length, get_or, Ok, Option}
 use Rattle.std.specs.Result.{result_and}
 use Rattle.laws.specs.Table.{pick}
 use Rattle.simplicity.specs.Types.{Ty, one, same}
@@ -25,8 +25,8 @@ pub record Among (b i : List ℕ) (r : ℕ) : Type 0 where
 -- what a judgement works on: which patterns and functions have a name twice, which pairs are known to fit, which records were searched in vain, and the live bindings, with room for 256 of them at each of 255 depths
 pub record Rows (b i : List ℕ) (q : Judge) : Type 0 where
   pub long : length q.doubled.now ≡ 4096
-  pub patterns : (r : ℕ) → Stands b i r PATTERN → get_or q.doubled.now r 0 ≡ pick (pattern_twice b i r) 1 0
-  pub functions : (r : ℕ) → Stands b i r FUNCTION → get_or q.doubled.now r 0 ≡ pick (params_twice b i r) 1 0
+  pub patterns : (r : ℕ) → Stands b i r PATTERN → get_or q.doubled.now r false ≡ pattern_twice b i r
+  pub functions : (r : ℕ) → Stands b i r FUNCTION → get_or q.doubled.now r false ≡ params_twice b i r
   pub known : Known b i q.memo.now
   pub missing : length q.vain ≡ 4096
   pub room : length q.bindings ≡ 130560

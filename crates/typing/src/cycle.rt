@@ -21,9 +21,9 @@ use shapes::whole::agrees;
 // `vain` serves a name's search, and `bindings` has the live bindings, a pattern and a type each, with room for 256 of them at each depth.
 #[derive(Drop)]
 pub struct Judge<'a> {
-    pub doubled: &'a [u8],
+    pub doubled: &'a [bool],
     pub memo: &'a mut [u32],
-    pub vain: [u8; 4096],
+    pub vain: [bool; 4096],
     pub bindings: [u16; 130560],
 }
 
@@ -98,7 +98,7 @@ impl Judge<'_> {
         ensures { Bound book.now.bytes book.now.index (binds r (pattern_of book.now.bytes book.now.index p) (type_of book.now.bytes book.now.index t)) p t scope.live scope.base self.old result self.new }
     {
         agree(fits(book, p, t, self.memo), r)?;
-        hold(self.doubled[p as usize] == 0, Fault::Name, r)?;
+        hold(!self.doubled[p as usize], Fault::Name, r)?;
         self.bindings[2 * scope.live] = p;
         self.bindings[2 * scope.live + 1] = t;
         Ok(())
@@ -267,7 +267,7 @@ impl Judge<'_> {
         requires rows { Rows book.now.bytes book.now.index self.old }
         ensures { Stays book.now.bytes book.now.index (check_fun (fun_of book.now.bytes book.now.index f)) 0 self.old result self.new }
     {
-        hold(self.doubled[f as usize] == 0, Fault::Name, f)?;
+        hold(!self.doubled[f as usize], Fault::Name, f)?;
         let n = book.field_at(f, 1) as usize;
         let e = book.field_at(f, 2 + 2 * n);
         self.expression(

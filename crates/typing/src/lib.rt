@@ -39,7 +39,7 @@ fn records(book: &Book, n: u16) -> Result<(), Refusal>
     ensures { result ≡ checking book.now.bytes book.now.index n }
 {
     values(book, n)?;
-    let mut doubled = [0u8; 4096];
+    let mut doubled = [false; 4096];
     doubles(book, n, &mut doubled);
     if n <= 512 {
         sized::<8192>(book, n, &doubled)
@@ -50,7 +50,7 @@ fn records(book: &Book, n: u16) -> Result<(), Refusal>
 
 // What follows the values, with a memo of N words that knows no pair yet: the proof counts to no N. All pairs of at most 512 records have their bit
 // in a memo of 8192 words, and a larger one is dear to clear; that no bit is missing is a matter of speed alone.
-fn sized<const N: usize>(book: &Book, n: u16, doubled: &[u8]) -> Result<(), Refusal>
+fn sized<const N: usize>(book: &Book, n: u16, doubled: &[bool]) -> Result<(), Refusal>
     requires size { N * 4 < 2 ^ 63 }
     requires valid { Valid book.now.bytes book.now.index n }
     requires tiles { Tiles book.now.bytes book.now.index n }
@@ -61,7 +61,7 @@ fn sized<const N: usize>(book: &Book, n: u16, doubled: &[u8]) -> Result<(), Refu
     let mut judge = Judge {
         doubled,
         memo: &mut memo,
-        vain: [0; 4096],
+        vain: [false; 4096],
         bindings: [0; 130560],
     };
     expressions(book, n, &mut judge)

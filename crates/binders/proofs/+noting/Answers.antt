@@ -10,8 +10,8 @@ use Rattle.binders.proofs.Tallies.{nameless_more, notes_none, meets_none, meets_
 use Rattle.binders.proofs.+noting.Goals as goal
 use Rattle.binders.proofs.+noting.Goals.{note_row-in-Named, note_row-in-Unnamed}
 
-pub note_all-returns-then-nameless-p-eq1 : goal.note_all-returns-then-nameless-p-eq1
-note_all-returns-then-nameless-p-eq1 t c = record { nameless = search rules; notes = notes_none c.requires.1.0 (c.requires.1.1.sound _ c.if-nameless-p-eq1.true) }
+pub note_all-returns-then-nameless-p : goal.note_all-returns-then-nameless-p
+note_all-returns-then-nameless-p t c = record { nameless = search rules; notes = notes_none c.requires.1.0 (c.requires.1.1.sound _ c.if-nameless-p.true) }
 
 pub note_all-mark_at-mark-requires : goal.note_all-mark_at-mark-requires
 note_all-mark_at-mark-requires t c = search stands_begins

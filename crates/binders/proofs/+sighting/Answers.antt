@@ -8,8 +8,8 @@ use Rattle.binders.proofs.Sights.{binds_place, binds_element, skips_none, skips_
 use Rattle.binders.proofs.+sighting.Goals as goal
 use Rattle.binders.proofs.+sighting.Goals.{type_in-else-mark-eq-PI-via-then-mark-eq-PI+else-field_at-name, type_in-else-mark-eq-PI-via-else-mark-eq-PI, type_in_row-then-may_have+else-is_some, type_in_row-else-may_have}
 
-pub type_in-returns-then-missing-p-eq1 : goal.type_in-returns-then-missing-p-eq1
-type_in-returns-then-missing-p-eq1 t c = search sights_known
+pub type_in-returns-then-missing-p : goal.type_in-returns-then-missing-p
+type_in-returns-then-missing-p t c = search sights_known
 
 pub type_in-mark_at-mark-requires : goal.type_in-mark_at-mark-requires
 type_in-mark_at-mark-requires t c = stands_begins c.requires.0.pattern

@@ -5,7 +5,7 @@ use Rattle.pattern.proofs.Records.{row_count, row_lies, row_part}
 use Rattle.binders.proofs.Tallies.{nameless_fits}
 use Rattle.binders.proofs.Bearing.{bearing_none, bearing_all, bearing_same, bearing_first, bears_self}
 use Rattle.binders.proofs.bearer.Goals as goal
-use Rattle.binders.proofs.bearer.Goals.{then-nameless-part-ne1+else-is_some, else-nameless-part-ne1}
+use Rattle.binders.proofs.bearer.Goals.{then-not-nameless-part+else-is_some, else-not-nameless-part}
 
 pub field_at-n-requires : goal.field_at-n-requires
 field_at-n-requires c = search row_count
@@ -25,7 +25,7 @@ returns-then-is_some c = bears_self c.requires.stands
 
 pub loop-k-preserved : goal.loop-k-preserved
 loop-k-preserved c =
-    elim c.if-nameless-part-ne1.branch [ then-nameless-part-ne1+else-is_some w ↦ bearing_first _ _ _ c.loop-k-test.true refl c.field_at-part.ensures refl c.loop-k.invariant (sym w.is_some.ensures ∙ w.if-is_some.false) (row_part c.requires.stands _ _ _ c.requires.mark_is c.field_at-n.ensures c.loop-k-test.true refl _ c.field_at-part.ensures) w.only-is | else-nameless-part-ne1 w ↦ bearing_same _ _ _ c.loop-k-test.true refl c.field_at-part.ensures refl c.loop-k.invariant (c.requires.nameless.sound _ w.if-nameless-part-ne1.false) w.only-is ]
+    elim c.if-not-nameless-part.branch [ then-not-nameless-part+else-is_some w ↦ bearing_first _ _ _ c.loop-k-test.true refl c.field_at-part.ensures refl c.loop-k.invariant (sym w.is_some.ensures ∙ w.if-is_some.false) (row_part c.requires.stands _ _ _ c.requires.mark_is c.field_at-n.ensures c.loop-k-test.true refl _ c.field_at-part.ensures) w.only-is | else-not-nameless-part w ↦ bearing_same _ _ _ c.loop-k-test.true refl c.field_at-part.ensures refl c.loop-k.invariant (c.requires.nameless.sound _ w.if-not-nameless-part.false) w.only-is ]
 
 pub returns : goal.returns
 returns c = bearing_all c.loop-k.invariant c.loop-k-test.false

@@ -7,7 +7,7 @@ use Rattle.binders.proofs.Scopes.{older_none, older_all, older_next, older_found
 use Rattle.binders.proofs.newest_type.Goals as goal
 
 pub loop-at-init : goal.loop-at-init
-loop-at-init c = (memo_none _ _ _ _ (rw c.requires.missing_length at c.clear.ensures), older_none _ _ _ _ _ _)
+loop-at-init c = (memo_none _ _ _ _ (rw c.requires.missing_length at c.fill.ensures.after (λ y e. e)), older_none _ _ _ _ _ _)
 
 pub returns-then-is_some : goal.returns-then-is_some
 returns-then-is_some c =
