@@ -4,55 +4,14 @@
 #![tactic(auto)]
 
 use book::fault::{Numbers, numbers_of};
-use console::read_full;
+use book::read::read;
 use std::io;
-use std::io::Read;
-use vectors::{low_first, print_totals, print_wrong, size_of};
+use vectors::replay_books;
 
-// Room for a book that is too long by far.
-const ROOM: usize = 131072;
-
-fn is_right(head: [u8; 8], got: Numbers) -> bool {
-    if got.number != head[0] {
-        return false;
-    }
-    if got.place != low_first(head[1], head[2]) {
-        return false;
-    }
-    got.count == low_first(head[3], head[4])
-}
-
-// The next book, read into all of the part, and run.
-fn is_book_right(input: &mut impl Read, head: [u8; 8], part: &mut [u8]) -> io::Result<bool> {
-    let n = read_full(input, part)?;
-    Ok(is_right(head, numbers_of(book::read::read(&part[..n]))))
-}
-
-// The next vector.
-fn is_next_right(input: &mut impl Read, head: [u8; 8]) -> io::Result<bool> {
-    let mut buffer = [0u8; ROOM];
-    let size = size_of(head[5], head[6], head[7]);
-    if ROOM < size {
-        return Ok(false);
-    }
-    is_book_right(input, head, &mut buffer[..size])
+fn is_right(book: &[u8], due: Numbers) -> bool {
+    numbers_of(read(book)) == due
 }
 
 fn main(rt: HostRuntime) -> io::Result<()> {
-    let mut input = rt.stdin();
-    let mut out = rt.stdout();
-    let mut head = [0u8; 8];
-    let mut run: u64 = 0;
-    let mut wrong: u64 = 0;
-    while run < 1000000 {
-        if read_full(&mut input, &mut head)? < 8 {
-            break;
-        }
-        if !is_next_right(&mut input, head)? {
-            print_wrong(&mut out, run)?;
-            wrong += 1;
-        }
-        run += 1;
-    }
-    print_totals(&mut out, run, wrong)
+    replay_books(&mut rt.stdin(), &mut rt.stdout(), is_right)
 }

@@ -6,8 +6,10 @@ ghost use Rattle.std.specs.Io.KnownBytes.{Appends};
 ghost use Rattle.console.specs.Lines.{count_line};
 ghost use Rattle.vectors.specs.Tables.{Alike, AllFrom};
 
+use book::fault::{Numbers, Refusal, fault_number};
+use console::read_full;
 use std::io;
-use std::io::Write;
+use std::io::{Read, Write};
 
 // A number of two bytes, low first.
 pub fn low_first(a: u8, b: u8) -> u16
@@ -75,4 +77,98 @@ pub fn print_totals<W: Write>(out: &mut W, all: u64, wrong: u64) -> io::Result<(
 {
     console::print_count(out, b"vectors", all)?;
     console::print_count(out, b"wrong", wrong)
+}
+
+// Whether an answer is the one that is due: a success by its count, a refusal by its number and place.
+pub fn is_due(answer: Result<u16, Refusal>, due: Numbers) -> bool {
+    match answer {
+        Ok(count) => due.number == 0 && due.count == count,
+        Err(why) => due.number == fault_number(why.fault) && due.place == why.place,
+    }
+}
+
+// At most so many vectors of a stream are replayed.
+const MOST: u64 = 1_000_000;
+
+// Replays a stream of vectors, each behind a head of N bytes. Prints which answers were wrong, how many vectors there were, and how many
+// were wrong.
+pub fn replay<
+    const N: usize,
+    H: From<[u8; N]> + Drop,
+    R: Read,
+    W: Write,
+    F: FnMut(&mut R, H) -> io::Result<bool>,
+>(input: &mut R, out: &mut W, mut is_next_right: F) -> io::Result<()>
+    requires head_fits { N ≤ 256 }
+    requires callable { F.IsAlwaysCallable is_next_right }
+{
+    let mut head = [0u8; N];
+    let mut all = 0;
+    let mut wrong = 0;
+    for i in 0..MOST {
+        if read_full(input, &mut head)? < N {
+            break;
+        }
+        if !is_next_right(input, H::from(head))? {
+            print_wrong(out, i)?;
+            wrong += 1;
+        }
+        all = i + 1;
+    }
+    print_totals(out, all, wrong)
+}
+
+// Room for a book that is too long by far.
+const ROOM: usize = 131072;
+
+// What stands before a book: the answer that is due, and the book's length.
+#[derive(Clone, Copy)]
+struct Head {
+    due: Numbers,
+    size: usize,
+}
+
+impl From<[u8; 8]> for Head {
+    fn from(head: [u8; 8]) -> Head {
+        Head {
+            due: Numbers {
+                number: head[0],
+                place: low_first(head[1], head[2]),
+                count: low_first(head[3], head[4]),
+            },
+            size: size_of(head[5], head[6], head[7]),
+        }
+    }
+}
+
+// The next book, and whether what is made of it is right. One that has no room is wrong.
+fn is_next_book_right<R: Read, F: Fn(&[u8], Numbers) -> bool>(
+    input: &mut R,
+    head: Head,
+    is_right: &F,
+) -> io::Result<bool>
+    requires { (f : _) (x1 : _) (x2 : _) → F.pre f x1 x2 }
+{
+    let mut buffer = [0u8; ROOM];
+    if ROOM < head.size {
+        return Ok(false);
+    }
+    let n = read_full(input, &mut buffer[..head.size])?;
+    Ok(is_right(&buffer[..n], head.due))
+}
+
+// Replays a stream of books. Each stands behind the number (one byte), the place and the count that are due (two bytes each, low
+// first), and its length (three bytes, low first).
+pub fn replay_books<R: Read, W: Write, F: Fn(&[u8], Numbers) -> bool>(
+    input: &mut R,
+    out: &mut W,
+    is_right: F,
+) -> io::Result<()>
+    requires { (f : _) (x1 : _) (x2 : _) → F.pre f x1 x2 }
+{
+    replay(
+        input,
+        out,
+        |input: &mut R, head: Head| is_next_book_right(input, head, &is_right),
+    )
 }
