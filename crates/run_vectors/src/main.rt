@@ -1,5 +1,5 @@
 // Runs RUN on a stream of vectors, and prints how many there were and which answers were wrong.
-// A vector: fourteen numbers of four bytes, in the order of the constants below; the book, the witnesses, the given nodes, the given
+// A vector: fourteen numbers of four bytes, those of `Head` in their order; the book, the witnesses, the given nodes, the given
 // cells, and the places of a jet's bits, if it has any. A table grows from what is given of it: each further entry is the one before,
 // its first number more by one if its growth is odd, its second if it is 2 or 3; odd bytes at its end are 165. Numbers are low byte
 // first.
@@ -12,38 +12,8 @@ use book::word::word;
 use console::read_full;
 use run::{Outcome, run};
 use std::io;
-use std::io::{Read, Write};
-use vectors::{begins_with, fill, is_zero_from, print_totals, print_wrong};
-
-// The expected answer, the count of nodes, the bytes of the cells, of the book, of the witnesses and of the nodes; the bytes given of
-// the nodes and of the expected cells, each with its growth; how many bits the result of a jet has, or 0.
-const NUMBER: usize = 0;
-
-const PLACE: usize = 1;
-
-const COUNT: usize = 2;
-
-const CELL: usize = 3;
-
-const NODES: usize = 4;
-
-const ROOM: usize = 5;
-
-const BOOK: usize = 6;
-
-const WITNESSES: usize = 7;
-
-const TABLE: usize = 8;
-
-const GIVEN_NODES: usize = 9;
-
-const NODES_GROWTH: usize = 10;
-
-const GIVEN_CELLS: usize = 11;
-
-const CELLS_GROWTH: usize = 12;
-
-const RESULT: usize = 13;
+use std::io::Read;
+use vectors::{begins_with, fill, is_zero_from, replay};
 
 // No stored vector has a longer part: tests/run_vectors.py sees to it.
 const MOST_BOOK: usize = 65536;
@@ -56,73 +26,70 @@ const MOST_TABLE: usize = 327690;
 // nodes, 16 cells, and at most nine cells of the result.
 const PLACES: usize = 164;
 
+// What stands before a vector: the answer that is due, the count of nodes; the bytes of the cells, of the book, of the witnesses and of
+// the nodes; the bytes given of the nodes and of the expected cells, each with its growth; how many bits the result of a jet has, or 0.
+#[derive(Clone, Copy)]
+struct Head {
+    number: u32,
+    place: u32,
+    count: u32,
+    cell: u32,
+    nodes: u32,
+    room: usize,
+    book: usize,
+    witnesses: usize,
+    table: usize,
+    given_nodes: usize,
+    nodes_growth: u32,
+    given_cells: usize,
+    cells_growth: u32,
+    result: usize,
+}
+
 // Number k of a head.
-fn number_at(head: [u8; 56], k: usize) -> u32
+fn number_at(head: &[u8; 56], k: usize) -> u32
     requires { k < 14 }
 {
     let at = 4 * k;
-    (word(&head, at) as u32) + 65536 * (word(&head, at + 2) as u32)
+    (word(head, at) as u32) + 65536 * (word(head, at + 2) as u32)
 }
 
-// The same where it is a length.
-fn size_at(head: [u8; 56], k: usize) -> usize
-    requires { k < 14 }
-    ensures { result < 4294967296 }
-{
-    number_at(head, k) as usize
-}
-
-fn is_number(head: [u8; 56], k: usize, n: u16) -> bool
-    requires { k < 14 }
-{
-    number_at(head, k) == (n as u32)
-}
-
-fn is_value(head: [u8; 56], count: u16, cell: u16) -> bool {
-    if !is_number(head, NUMBER, 0) {
-        return false;
-    }
-    if !is_number(head, COUNT, count) {
-        return false;
-    }
-    is_number(head, CELL, cell)
-}
-
-// A failure is a success that has no cells.
-fn is_answer(head: [u8; 56], answer: Result<Outcome, Refusal>) -> bool {
-    match answer {
-        Ok(Outcome::Value { cell, count }) => is_value(head, count, cell),
-        Ok(Outcome::Failed) => is_value(head, 0, 0),
-        Err(why) => {
-            let fault = why.fault;
-            if !is_number(head, NUMBER, fault_number(fault) as u16) {
-                return false;
-            }
-            is_number(head, PLACE, why.place)
+impl From<[u8; 56]> for Head {
+    fn from(head: [u8; 56]) -> Head {
+        Head {
+            number: number_at(&head, 0),
+            place: number_at(&head, 1),
+            count: number_at(&head, 2),
+            cell: number_at(&head, 3),
+            nodes: number_at(&head, 4),
+            room: number_at(&head, 5) as usize,
+            book: number_at(&head, 6) as usize,
+            witnesses: number_at(&head, 7) as usize,
+            table: number_at(&head, 8) as usize,
+            given_nodes: number_at(&head, 9) as usize,
+            nodes_growth: number_at(&head, 10),
+            given_cells: number_at(&head, 11) as usize,
+            cells_growth: number_at(&head, 12),
+            result: number_at(&head, 13) as usize,
         }
     }
 }
 
-// RUN is to write every byte, whatever the table held: the cells that are due, and zeros.
-fn is_right(
-    head: [u8; 56],
-    book: &[u8],
-    witnesses: &[u8],
-    nodes: &[u8],
-    due: &[u8],
-    cells: &mut [u8],
-) -> bool {
-    fill(cells);
-    if !is_answer(
-        head,
-        run(book, witnesses, nodes, number_at(head, NODES), cells),
-    ) {
-        return false;
+impl Head {
+    fn is_value(&self, count: u16, cell: u16) -> bool {
+        self.number == 0 && self.count == (count as u32) && self.cell == (cell as u32)
     }
-    if !begins_with(cells, due) {
-        return false;
+
+    // Whether an answer is the one that is due. A failure is a success that has no cells.
+    fn is_due(&self, answer: Result<Outcome, Refusal>) -> bool {
+        match answer {
+            Ok(Outcome::Value { cell, count }) => self.is_value(count, cell),
+            Ok(Outcome::Failed) => self.is_value(0, 0),
+            Err(why) => {
+                self.number == (fault_number(why.fault) as u32) && self.place == (why.place as u32)
+            }
+        }
     }
-    is_zero_from(cells, due.len())
 }
 
 // The number that stands five bytes before, and more.
@@ -150,10 +117,8 @@ fn grow(table: &mut [u8], from: usize, growth: u32)
     requires from_in_range { 5 ≤ from }
     requires from_fits { from ≤ length table.old }
 {
-    let mut at = from;
-    while 5 <= table.len() - at {
+    for at in (from..table.len() - 4).step_by(5) {
         put_next(table, at, growth);
-        at += 5;
     }
 }
 
@@ -185,15 +150,14 @@ fn put_bit(table: &mut [u8], place: u8, kind: u8, n: u32)
     }
 }
 
-// So do the entries at `count` places from one on, by the bits of n, low first.
-fn put_bits(table: &mut [u8], places: &[u8], from: usize, count: usize, kind: u8, n: u32)
-    requires from_fits { from + count ≤ length places.now }
-    requires kind_in_range { kind < 255 }
+// So do the entries at the places, by the bits of n, low first.
+fn put_bits(table: &mut [u8], places: &[u8], kind: u8, n: u32)
+    requires { kind < 255 }
 {
     let mut rest = n;
-    for k in 0..count {
-        put_bit(table, places[from + k], kind, rest);
-        rest = rest / 2;
+    for place in places {
+        put_bit(table, *place, kind, rest);
+        rest /= 2;
     }
 }
 
@@ -201,49 +165,62 @@ fn put_bits(table: &mut [u8], places: &[u8], from: usize, count: usize, kind: u8
 fn result_of(bits: usize, n: u32) -> u32 {
     let a = n / 256;
     let b = n % 256;
-    if bits == 9 {
-        return a + b;
-    }
-    if a == b { 1 } else { 0 }
+    if bits == 9 { a + b } else { (a == b) as u32 }
 }
 
-// One of a jet's uses, whose places begin at a place: the two bytes of n, and what is due for them.
-fn put_use(nodes: &mut [u8], due: &mut [u8], places: &[u8], at: usize, bits: usize, n: u32)
-    requires { at + 32 + bits ≤ length places.now }
+// The parts of a vector are passed one by one: two fields of a struct that is lent may not be lent at once in what the prover covers.
+
+// RUN is to write every byte, whatever the table held: the cells that are due, and zeros.
+fn is_right(
+    head: &Head,
+    book: &[u8],
+    witnesses: &[u8],
+    nodes: &[u8],
+    due: &[u8],
+    cells: &mut [u8],
+) -> bool {
+    fill(cells);
+    head.is_due(run(book, witnesses, nodes, head.nodes, cells))
+        && begins_with(cells, due)
+        && is_zero_from(cells, due.len())
+}
+
+// One of a jet's uses, by the places of its bits: the two bytes of n, and what is due for them.
+fn put_use(nodes: &mut [u8], due: &mut [u8], places: &[u8], n: u32)
+    requires { 32 ≤ length places.now }
 {
-    put_bits(nodes, places, at, 16, 3, n);
-    put_bits(due, places, at + 16, 16, 2, n);
-    put_bits(due, places, at + 32, bits, 2, result_of(bits, n));
+    put_bits(nodes, &places[..16], 3, n);
+    put_bits(due, &places[16..32], 2, n);
+    put_bits(due, &places[32..], 2, result_of(places.len() - 32, n));
 }
 
-// All uses of a jet: n and the three numbers after it.
-fn put_uses(nodes: &mut [u8], due: &mut [u8], places: &[u8], bits: usize, n: u32)
-    requires bits_fits { 4 * (32 + bits) ≤ length places.now }
-    requires bits_in_range { bits ≤ 9 }
+// All uses of a jet, each with so many places: n and the three numbers after it.
+fn put_uses(nodes: &mut [u8], due: &mut [u8], places: &[u8], width: usize, n: u32)
+    requires width_in_range { 32 ≤ width }
+    requires width_fits { 4 * width ≤ length places.now }
     requires n_in_range { n ≤ 65536 }
 {
-    let width = 32 + bits;
-    put_use(nodes, due, places, 0, bits, n);
-    put_use(nodes, due, places, width, bits, n + 1);
-    put_use(nodes, due, places, 2 * width, bits, n + 2);
-    put_use(nodes, due, places, 3 * width, bits, n + 3);
+    put_use(nodes, due, &places[..width], n);
+    put_use(nodes, due, &places[width..2 * width], n + 1);
+    put_use(nodes, due, &places[2 * width..3 * width], n + 2);
+    put_use(nodes, due, &places[3 * width..4 * width], n + 3);
 }
 
 // The jet on every two bytes.
 fn is_jet_right(
-    head: [u8; 56],
+    head: &Head,
     book: &[u8],
     nodes: &mut [u8],
     due: &mut [u8],
     cells: &mut [u8],
     places: &[u8],
-    bits: usize,
+    width: usize,
 ) -> bool
-    requires bits_fits { 4 * (32 + bits) ≤ length places.now }
-    requires bits_in_range { bits ≤ 9 }
+    requires width_in_range { 32 ≤ width }
+    requires width_fits { 4 * width ≤ length places.now }
 {
     for fourth in 0..16384u32 {
-        put_uses(nodes, due, places, bits, 4 * fourth);
+        put_uses(nodes, due, places, width, 4 * fourth);
         if !is_right(head, book, b"", nodes, due, cells) {
             return false;
         }
@@ -254,25 +231,24 @@ fn is_jet_right(
 // Reads the places of a jet's bits, and runs it.
 fn is_next_jet_right(
     input: &mut impl Read,
-    head: [u8; 56],
+    head: &Head,
     book: &[u8],
     nodes: &mut [u8],
     due: &mut [u8],
     cells: &mut [u8],
 ) -> io::Result<bool> {
-    let bits = size_at(head, RESULT);
-    if 9 < bits {
+    if 9 < head.result {
         return Ok(false);
     }
     let mut places = [0u8; PLACES];
     read_full(input, &mut places)?;
-    Ok(is_jet_right(head, book, nodes, due, cells, &places, bits))
+    Ok(is_jet_right(head, book, nodes, due, cells, &places, 32 + head.result))
 }
 
 // The rest of a vector, read into all of its parts, and run.
 fn is_read_right(
     input: &mut impl Read,
-    head: [u8; 56],
+    head: &Head,
     book: &mut [u8],
     witnesses: &mut [u8],
     nodes: &mut [u8],
@@ -281,89 +257,42 @@ fn is_read_right(
 ) -> io::Result<bool> {
     read_full(input, book)?;
     read_full(input, witnesses)?;
-    read_table(
-        input,
-        nodes,
-        size_at(head, GIVEN_NODES),
-        number_at(head, NODES_GROWTH),
-    )?;
-    read_table(
-        input,
-        due,
-        size_at(head, GIVEN_CELLS),
-        number_at(head, CELLS_GROWTH),
-    )?;
-    if is_number(head, RESULT, 0) {
+    read_table(input, nodes, head.given_nodes, head.nodes_growth)?;
+    read_table(input, due, head.given_cells, head.cells_growth)?;
+    if head.result == 0 {
         return Ok(is_right(head, book, witnesses, nodes, due, cells));
     }
     is_next_jet_right(input, head, book, nodes, due, cells)
 }
 
-// The same where the parts have room.
+// The next vector, in room for the parts of any. One that has no room is wrong.
 fn is_next_right(
     input: &mut impl Read,
-    head: [u8; 56],
+    head: &Head,
     book: &mut [u8],
     witnesses: &mut [u8],
     nodes: &mut [u8],
     due: &mut [u8],
     cells: &mut [u8],
 ) -> io::Result<bool> {
-    let b = size_at(head, BOOK);
-    let w = size_at(head, WITNESSES);
-    let t = size_at(head, TABLE);
-    let d = 5 * size_at(head, COUNT);
-    let c = size_at(head, ROOM);
-    if book.len() < b {
-        return Ok(false);
-    }
-    if witnesses.len() < w {
-        return Ok(false);
-    }
-    if nodes.len() < t {
-        return Ok(false);
-    }
-    if due.len() < d {
-        return Ok(false);
-    }
-    if cells.len() < c {
+    let used = 5 * (head.count as usize);
+    if book.len() < head.book
+        || witnesses.len() < head.witnesses
+        || nodes.len() < head.table
+        || due.len() < used
+        || cells.len() < head.room
+    {
         return Ok(false);
     }
     is_read_right(
         input,
         head,
-        &mut book[..b],
-        &mut witnesses[..w],
-        &mut nodes[..t],
-        &mut due[..d],
-        &mut cells[..c],
+        &mut book[..head.book],
+        &mut witnesses[..head.witnesses],
+        &mut nodes[..head.table],
+        &mut due[..used],
+        &mut cells[..head.room],
     )
-}
-
-// Every vector, in room for the parts of any.
-fn run_all(
-    input: &mut impl Read,
-    out: &mut impl Write,
-    book: &mut [u8],
-    witnesses: &mut [u8],
-    nodes: &mut [u8],
-    due: &mut [u8],
-    cells: &mut [u8],
-) -> io::Result<()> {
-    let mut head = [0u8; 56];
-    let mut all: u64 = 0;
-    let mut wrong: u64 = 0;
-    while all < 1000000 {
-        if read_full(input, &mut head)? < 56 {
-            break;
-        }
-        if !is_next_right(input, head, book, witnesses, nodes, due, cells)? {
-            print_wrong(out, all)?;
-            wrong += 1;
-        }
-        all += 1;
-    }
-    print_totals(out, all, wrong)
 }
 
 fn main(rt: HostRuntime) -> io::Result<()> {
@@ -372,13 +301,15 @@ fn main(rt: HostRuntime) -> io::Result<()> {
     let mut nodes = [0u8; MOST_TABLE];
     let mut due = [0u8; MOST_TABLE];
     let mut cells = [0u8; MOST_TABLE];
-    run_all(
-        &mut rt.stdin(),
-        &mut rt.stdout(),
-        &mut book,
-        &mut witnesses,
-        &mut nodes,
-        &mut due,
-        &mut cells,
-    )
+    replay(&mut rt.stdin(), &mut rt.stdout(), |input, head: Head| {
+        is_next_right(
+            input,
+            &head,
+            &mut book,
+            &mut witnesses,
+            &mut nodes,
+            &mut due,
+            &mut cells,
+        )
+    })
 }
