@@ -14,7 +14,7 @@ use run::{Outcome, run};
 use std::io;
 use std::io::Read;
 use typing::check;
-use vectors::{low_first, print_totals, print_wrong};
+use vectors::{low_first, replay};
 
 // One more than the greatest length of a part.
 const MOST: usize = 65536;
@@ -69,10 +69,7 @@ fn is_value_within(cells: &[u8], cell: u16, due: &[u8], row: &mut [u16]) -> bool
 // The same in room for any that is due.
 fn is_value(cells: &[u8], cell: u16, due: &[u8]) -> bool {
     let mut row = [0u16; MOST];
-    if MOST <= due.len() {
-        return false;
-    }
-    is_value_within(cells, cell, due, &mut row)
+    due.len() < MOST && is_value_within(cells, cell, due, &mut row)
 }
 
 // The nodes, run: the outcome is the one that is due.
@@ -80,7 +77,7 @@ fn runs_as_due(book: &[u8], witnesses: &[u8], due: &[u8], nodes: &[u8], count: u
     let mut cells = [0u8; TABLE];
     match run(book, witnesses, nodes, count as u32, &mut cells) {
         Ok(Outcome::Value { cell, .. }) => is_value(&cells, cell, due),
-        Ok(Outcome::Failed) => due.len() == 0,
+        Ok(Outcome::Failed) => due.is_empty(),
         Err(_) => false,
     }
 }
@@ -94,22 +91,11 @@ fn ends_as_due(book: &[u8], witnesses: &[u8], due: &[u8], symbols: bool) -> bool
     }
 }
 
-fn passes_check(book: &[u8]) -> bool {
-    match check(book) {
-        Ok(_) => true,
-        Err(_) => false,
-    }
-}
-
 // A case: CHECK passes the book, and both runs end as is due.
 fn is_right(book: &[u8], witnesses: &[u8], due: &[u8]) -> bool {
-    if !passes_check(book) {
-        return false;
-    }
-    if !ends_as_due(book, witnesses, due, false) {
-        return false;
-    }
-    ends_as_due(book, witnesses, due, true)
+    check(book).is_ok()
+        && ends_as_due(book, witnesses, due, false)
+        && ends_as_due(book, witnesses, due, true)
 }
 
 // The same for the next case, read into all of its parts.
@@ -125,41 +111,39 @@ fn is_read_right(
     Ok(is_right(book, witnesses, due))
 }
 
-// The same in room for the parts of any, of these lengths.
-fn is_sized_right(input: &mut impl Read, b: u16, w: u16, d: u16) -> io::Result<bool> {
+// What stands before a case: how long its parts are.
+#[derive(Clone, Copy)]
+struct Head {
+    book: u16,
+    witnesses: u16,
+    due: u16,
+}
+
+impl From<[u8; 6]> for Head {
+    fn from(head: [u8; 6]) -> Head {
+        Head {
+            book: low_first(head[0], head[1]),
+            witnesses: low_first(head[2], head[3]),
+            due: low_first(head[4], head[5]),
+        }
+    }
+}
+
+// The next case, in room for the parts of any.
+fn is_next_right(input: &mut impl Read, head: Head) -> io::Result<bool> {
     let mut book = [0u8; MOST];
     let mut witnesses = [0u8; MOST];
     let mut due = [0u8; MOST];
     is_read_right(
         input,
-        &mut book[..b as usize],
-        &mut witnesses[..w as usize],
-        &mut due[..d as usize],
+        &mut book[..head.book as usize],
+        &mut witnesses[..head.witnesses as usize],
+        &mut due[..head.due as usize],
     )
 }
 
-fn is_next_right(input: &mut impl Read, head: [u8; 6]) -> io::Result<bool> {
-    let b = low_first(head[0], head[1]);
-    let w = low_first(head[2], head[3]);
-    let d = low_first(head[4], head[5]);
-    is_sized_right(input, b, w, d)
-}
-
 fn main(rt: HostRuntime) -> io::Result<()> {
-    let mut input = rt.stdin();
-    let mut out = rt.stdout();
-    let mut head = [0u8; 6];
-    let mut all: u64 = 0;
-    let mut wrong: u64 = 0;
-    while all < 1000000 {
-        if read_full(&mut input, &mut head)? < 6 {
-            break;
-        }
-        if !is_next_right(&mut input, head)? {
-            print_wrong(&mut out, all)?;
-            wrong += 1;
-        }
-        all += 1;
-    }
-    print_totals(&mut out, all, wrong)
+    replay(&mut rt.stdin(), &mut rt.stdout(), |input, head: Head| {
+        is_next_right(input, head)
+    })
 }
