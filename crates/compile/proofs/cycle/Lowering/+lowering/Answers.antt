@@ -1,23 +1,22 @@
 -- The lowering of expressions: each function of the cycle does what its definition says, and together they are `lower`.
 -- Assumes nothing.
 use mathlib.Core.Path.{refl, sym, ◌∙◌}
-use native.Mathlib.Nat.{le_trans, le_of_lt}
 use native.Mathlib.Omega.{arith}
 use lib.ListN.{length-set}
 use Rattle.laws.specs.Table.{free}
-use Rattle.book.specs.Format.{PATTERN, EXPRESSION, EC, EW, EV, EB, SA, SE, EM, EH, CK, FN}
+use Rattle.book.specs.Format.{PATTERN, EXPRESSION, EC, EW, EV, SA, SE, CK, FN}
 use Rattle.book.proofs.Standing.{stands_begins, head_lies, function_mark}
 use lib.Seq.{length-take-le}
 use Rattle.named.proofs.Storing.{then, halt, handed}
 use Rattle.scope_bindings.specs.Scope.{of_function}
 use Rattle.scope_bindings.proofs.Scopes.{scope_count, root_stands}
-use Rattle.parts.proofs.Marks.{lies, most, at_mark}
-use Rattle.parts.proofs.Spans.{stmt_lies, stmt_stands, stmt_below, does_mark, near_most}
+use Rattle.parts.proofs.Marks.{lies, most}
+use Rattle.parts.proofs.Spans.{stmt_lies, stmt_stands, stmt_below, does_mark}
 use Rattle.compile.specs.Cycle.{call_run}
 use Rattle.compile.proofs.Shapes.{other_marks, row_is, row_else, cast_is, constant_is, witness_is, variable_is, block_is}
-use Rattle.compile.proofs.Steps.{suffices_start, suffices_next, suffices_halt, suffices_done}
+use Rattle.compile.proofs.Steps.{suffices_next, suffices_halt, suffices_done}
 use Rattle.compile.proofs.Blocks.{begun_start, begun_next, begun_halt, begun_end, begun_end_halt}
-use Rattle.compile.proofs.Facts.{head_is, head_less, in_span, does_stands, does_below, value_stands, value_below, inner_stands, arm_done, arm_full, fn_lies, fn_stands, fn_less, fn_done, end_lies, end_is, end_less, begin_does, begin_assign, begin_halt, element_plain, element_arm, functional_lies, functional_stands, functional_below, body_plain, body_fold, body_halt, choose_then, choose_halt, complete_call, complete_wrap, lies_after, arm_names, arm_body, arm_less, marked_as, marked, end_unit, end_expr, row_then, row_halt, arms_is, enters_is}
+use Rattle.compile.proofs.Facts.{head_is, head_less, in_span, does_stands, does_below, value_stands, value_below, inner_stands, arm_done, arm_full, fn_lies, fn_stands, fn_less, fn_done, end_lies, end_is, end_less, begin_does, begin_assign, begin_halt, element_plain, element_arm, functional_lies, functional_stands, functional_below, body_plain, body_fold, body_halt, choose_then, choose_halt, complete_call, complete_wrap, marked_as, marked, end_unit, end_expr, row_then, row_halt, arms_is, enters_is}
 use borrow.Author.Rules.{rules}
 use Rattle.compile.proofs.cycle.Lowering.+lowering.Goals as goal
 
@@ -70,9 +69,9 @@ pub block-begin-requires : goal.block-begin-requires
 block-begin-requires t c =
     ((omega (arith, c.decreases, stmt_below c.requires.0 c.loop-k.k (omega (arith, c.loop-k-test.true, c.field_at-count.ensures)), c.field_at-s.ensures)), (stmt_stands c.requires.0 c.loop-k.k (omega (arith, c.loop-k-test.true, c.field_at-count.ensures)) c.field_at-s.ensures, c.loop-k.invariant.1))
 
-pub block-enter-own-requires : goal.block-enter-own-requires
-block-enter-own-requires t c =
-    record { stands = stmt_stands c.requires.0 c.loop-k.k (omega (arith, c.loop-k-test.true, c.field_at-count.ensures)) c.field_at-s.ensures; scope_stands = c.loop-k.invariant.1 }
+pub block-enter-own-requires-clause-stands : goal.block-enter-own-requires-clause-stands
+block-enter-own-requires-clause-stands t c =
+    stmt_stands c.requires.0 c.loop-k.k (omega (arith, c.loop-k-test.true, c.field_at-count.ensures)) c.field_at-s.ensures
 
 pub block-loop-k-init : goal.block-loop-k-init
 block-loop-k-init t c = (search rules, c.requires.1, begun_start _ _ _ _ _ _ _ _ _ refl)
@@ -88,9 +87,6 @@ pub block-loop-k-preserved : goal.block-loop-k-preserved
 block-loop-k-preserved t c =
     (simp length-set c.loop-k.invariant.0, c.enter-own.ensures.stands, begun_next c.loop-k.invariant.2 _ c.field_at-s.ensures (stmt_stands c.requires.0 c.loop-k.k (omega (arith, c.loop-k-test.true, c.field_at-count.ensures)) c.field_at-s.ensures) c.loop-k-test.true (omega (arith, c.loop-k-test.true, most c.requires.0 1 tt refl, c.field_at-count.ensures, c.loop-k.invariant.0)) c.in_ok-begun.ensures (enters_is _ c.enter-own.ensures c.in_ok-begun.ensures))
 
-pub block-end-requires : goal.block-end-requires
-block-end-requires t c = ((omega (arith, c.decreases)), (c.requires.0, c.loop-k.invariant.1))
-
 pub block-returns-in_err-last : goal.block-returns-in_err-last
 block-returns-in_err-last t c =
     rw (handed c.from_residual-in_err-last.ensures.1, block_is _ _ _ _ _ c.requires.0, ← c.field_at-count.ensures) (begun_end_halt c.loop-k.invariant.2 c.loop-k-test.false c.loop-k.auto.k-end (rw (← c.field_at-count.ensures) at c.in_err-last.ensures))
@@ -102,17 +98,13 @@ pub block-slice_bounds-close_all-end : goal.block-slice_bounds-close_all-end
 block-slice_bounds-close_all-end t c =
     sym (length-take-le _ _ (omega (arith, most c.requires.0 1 tt refl, c.field_at-count.ensures, c.loop-k.invariant.0)))
 
-pub block-close_all-requires : goal.block-close_all-requires
-block-close_all-requires t c =
-    record { marked = c.requires.0; count_is = length-take-le _ _ (omega (arith, most c.requires.0 1 tt refl, c.field_at-count.ensures, c.loop-k.invariant.0)) ∙ c.field_at-count.ensures }
+pub block-close_all-requires-clause-count_is : goal.block-close_all-requires-clause-count_is
+block-close_all-requires-clause-count_is t c =
+    length-take-le _ _ (omega (arith, most c.requires.0 1 tt refl, c.field_at-count.ensures, c.loop-k.invariant.0)) ∙ c.field_at-count.ensures
 
 pub block-returns : goal.block-returns
 block-returns t c =
     rw (block_is _ _ _ _ _ c.requires.0, ← c.field_at-count.ensures) (begun_end c.loop-k.invariant.2 c.loop-k-test.false c.loop-k.auto.k-end (omega (arith, most c.requires.0 1 tt refl, c.field_at-count.ensures, c.loop-k.invariant.0)) (rw (← c.field_at-count.ensures) at c.in_ok-last.ensures) c.close_all.ensures)
-
-pub body-plain_body-requires : goal.body-plain_body-requires
-body-plain_body-requires t c =
-    record { marked = c.requires.0; is_call_is = c.requires.1; is_functional_is = sym c.is_functional.ensures ∙ c.if-is_functional.false }
 
 pub body-returns-else-is_functional : goal.body-returns-else-is_functional
 body-returns-else-is_functional t c = body_plain _ _ _ _ _ (sym c.is_functional.ensures ∙ c.if-is_functional.false) c.plain_body.ensures
@@ -124,9 +116,6 @@ pub body-function-requires : goal.body-function-requires
 body-function-requires t c =
     ((omega (arith, c.decreases, functional_below c.requires.0 (sym c.is_functional.ensures ∙ c.if-is_functional.true) c.field_at-f.ensures)), functional_stands c.requires.0 (sym c.is_functional.ensures ∙ c.if-is_functional.true) c.field_at-f.ensures)
 
-pub body-fold_body-requires : goal.body-fold_body-requires
-body-fold_body-requires t c = c.requires.0
-
 pub body-returns-in_ok-g : goal.body-returns-in_ok-g
 body-returns-in_ok-g t c =
     body_fold _ _ _ _ _ (sym c.is_functional.ensures ∙ c.if-is_functional.true) c.field_at-f.ensures c.in_ok-g.ensures c.fold_body.ensures
@@ -134,12 +123,6 @@ body-returns-in_ok-g t c =
 pub body-returns-in_err-g : goal.body-returns-in_err-g
 body-returns-in_err-g t c =
     rw (handed c.from_residual.ensures.1) (body_halt _ _ _ _ _ (sym c.is_functional.ensures ∙ c.if-is_functional.true) c.field_at-f.ensures c.in_err-g.ensures)
-
-pub call-body-requires : goal.call-body-requires
-call-body-requires t c = ((omega (arith, c.decreases)), (c.requires.0, c.requires.1))
-
-pub call-finish-requires : goal.call-finish-requires
-call-finish-requires t c = c.requires.0
 
 pub call-returns : goal.call-returns
 unfolding call_run
@@ -162,58 +145,18 @@ choose-returns t c = choose_then _ _ _ _ _ _ c.field_at-e.ensures c.in_ok-s.ensu
 pub choose-returns-in_err-s : goal.choose-returns-in_err-s
 choose-returns-in_err-s t c = rw (handed c.from_residual.ensures.1) (choose_halt _ _ _ _ _ _ c.field_at-e.ensures c.in_err-s.ensures)
 
-pub complete-choose-requires : goal.complete-choose-requires
-complete-choose-requires t c = ((omega (arith, c.decreases)), (at_mark c.requires.0 EH c.if-m-eq-EH.true, c.requires.1))
-
-pub complete-returns-then-m-eq-EH : goal.complete-returns-then-m-eq-EH
-complete-returns-then-m-eq-EH t c = rw c.if-m-eq-EH.true c.choose.ensures
-
-pub complete-call-requires : goal.complete-call-requires
-complete-call-requires t c = ((omega (arith, c.decreases)), (c.requires.0, sym c.is_call.ensures ∙ c.if-is_call.true))
-
 pub complete-returns-then-is_call : goal.complete-returns-then-is_call
 complete-returns-then-is_call t c = complete_call _ _ _ _ _ _ _ c.if-m-eq-EH.false (sym c.is_call.ensures ∙ c.if-is_call.true) c.call.ensures
 
-pub complete-wrap-requires : goal.complete-wrap-requires
-complete-wrap-requires t c = c.requires.0
-
 pub complete-returns-else-is_call : goal.complete-returns-else-is_call
 complete-returns-else-is_call t c = complete_wrap _ _ _ _ _ _ _ c.if-m-eq-EH.false (sym c.is_call.ensures ∙ c.if-is_call.false) c.wrap.ensures
-
-pub element-overflow_sub-j : goal.element-overflow_sub-j
-element-overflow_sub-j t c = c.requires.1.1.after c.if-m-eq-EH.true
-
-pub element-arm_at-a-requires : goal.element-arm_at-a-requires
-element-arm_at-a-requires t c = (c.requires.1.1.before c.if-m-eq-EH.true, lies_after (c.requires.1.1.after c.if-m-eq-EH.true) c.requires.1.1.lies)
-
-pub element-arm-requires : goal.element-arm-requires
-element-arm-requires t c =
-    ((omega (arith, c.decreases, arm_less (c.requires.1.1) c.if-m-eq-EH.true c.arm_at-a.ensures.1)), (arm_names c.requires.1.1 c.if-m-eq-EH.true c.arm_at-a.ensures.0, (arm_body c.requires.1.1 c.if-m-eq-EH.true c.arm_at-a.ensures.1, c.requires.1.0)))
 
 pub element-returns-then-m-eq-EH : goal.element-returns-then-m-eq-EH
 element-returns-then-m-eq-EH t c =
     element_arm _ _ _ _ _ _ _ _ _ c.if-m-eq-EH.true (c.requires.1.1.after c.if-m-eq-EH.true) c.arm_at-a.ensures.0 c.arm_at-a.ensures.1 c.arm.ensures
 
-pub element-field_at-e-requires : goal.element-field_at-e-requires
-element-field_at-e-requires t c = c.requires.1.1.lies
-
-pub element-expression-requires : goal.element-expression-requires
-element-expression-requires t c =
-    ((omega (arith, c.decreases, c.requires.1.1.below, c.field_at-e.ensures)), (rw c.field_at-e.ensures c.requires.1.1.stands, c.requires.1.0))
-
 pub element-returns-else-m-eq-EH : goal.element-returns-else-m-eq-EH
 element-returns-else-m-eq-EH t c = element_plain _ _ _ _ _ _ _ _ c.if-m-eq-EH.false c.field_at-e.ensures c.expression.ensures
-
-pub elements-loop-k-init : goal.elements-loop-k-init
-elements-loop-k-init t c = suffices_start _ _ _ _ _ _ _ _ _ _ _ _ refl
-
-pub elements-overflow_mul-j : goal.elements-overflow_mul-j
-elements-overflow_mul-j t c =
-    omega (arith, near_most _ _ c.requires.1.1.1.0.near (le_trans (le_of_lt (rw c.requires.1.1.1.1 at c.loop-k-test.true)) c.requires.1.1.1.0.few))
-
-pub elements-overflow_add-j : goal.elements-overflow_add-j
-elements-overflow_add-j t c =
-    omega (arith, c.requires.1.1.1.0.low, near_most _ _ c.requires.1.1.1.0.near (le_trans (le_of_lt (rw c.requires.1.1.1.1 at c.loop-k-test.true)) c.requires.1.1.1.0.few))
 
 pub elements-element-requires : goal.elements-element-requires
 elements-element-requires t c =
@@ -233,9 +176,6 @@ elements-returns t c = suffices_done c.loop-k.invariant (omega (arith, c.require
 pub end-field_at-n-requires : goal.end-field_at-n-requires
 end-field_at-n-requires t c = lies c.requires.0 1 tt
 
-pub end-overflow_add-n : goal.end-overflow_add-n
-end-overflow_add-n t c = omega (arith, most c.requires.0 1 tt refl, c.field_at-n.ensures)
-
 pub end-field_at-e-requires : goal.end-field_at-e-requires
 end-field_at-e-requires t c = end_lies c.requires.0 c.field_at-n.ensures
 
@@ -251,21 +191,6 @@ end-returns-else-e t c = rw (← c.field_at-n.ensures) (end_expr _ _ _ _ _ _ c.f
 
 pub expression-mark_at-m-requires : goal.expression-mark_at-m-requires
 expression-mark_at-m-requires t c = stands_begins c.requires.0
-
-pub expression-constant-requires : goal.expression-constant-requires
-expression-constant-requires t c = (marked c.requires.0 c.mark_at-m.ensures EC c.in-11.is)
-
-pub expression-witness-requires : goal.expression-witness-requires
-expression-witness-requires t c = (marked c.requires.0 c.mark_at-m.ensures EW c.in-12.is)
-
-pub expression-variable-requires : goal.expression-variable-requires
-expression-variable-requires t c = record { marked = (marked c.requires.0 c.mark_at-m.ensures EV c.in-13.is); scope_stands = c.requires.1 }
-
-pub expression-block-requires : goal.expression-block-requires
-expression-block-requires t c = ((omega (arith, c.decreases)), ((marked c.requires.0 c.mark_at-m.ensures EB c.in-19.is), c.requires.1))
-
-pub expression-two_arms-requires : goal.expression-two_arms-requires
-expression-two_arms-requires t c = ((omega (arith, c.decreases)), ((marked c.requires.0 c.mark_at-m.ensures EM c.in-22.is), c.requires.1))
 
 pub expression-field_at-e-requires : goal.expression-field_at-e-requires
 expression-field_at-e-requires t c = lies (marked c.requires.0 c.mark_at-m.ensures CK c.in-31.is) 1 tt
@@ -287,24 +212,9 @@ expression-returns-in-12 t c = rw (witness_is _ _ _ _ _ (marked c.requires.0 c.m
 pub expression-returns-in-13 : goal.expression-returns-in-13
 expression-returns-in-13 t c = rw (variable_is _ _ _ _ _ (marked c.requires.0 c.mark_at-m.ensures EV c.in-13.is)) c.variable.ensures
 
-pub expression-returns-in-19 : goal.expression-returns-in-19
-expression-returns-in-19 t c = c.block.ensures
-
-pub expression-returns-in-22 : goal.expression-returns-in-22
-expression-returns-in-22 t c = c.two_arms.ensures
-
 pub expression-returns-in-31 : goal.expression-returns-in-31
 expression-returns-in-31 t c =
     rw (cast_is _ _ _ _ _ (marked c.requires.0 c.mark_at-m.ensures CK c.in-31.is), ← c.field_at-e.ensures) c.expression.ensures
-
-pub expression-returns-in_default : goal.expression-returns-in_default
-expression-returns-in_default t c = c.from_row.ensures
-
-pub from_row-row-requires : goal.from_row-row-requires
-from_row-row-requires t c = ((omega (arith, c.decreases)), (c.requires.0, (c.requires.1.0, c.requires.1.1)))
-
-pub from_row-complete-requires : goal.from_row-complete-requires
-from_row-complete-requires t c = ((omega (arith, c.decreases)), (c.requires.0, c.requires.1.0))
 
 pub from_row-returns : goal.from_row-returns
 from_row-returns t c = rw (row_is _ _ _ _ _ _ c.requires.1.1 c.requires.0) (then _ c.in_ok-a.ensures c.complete.ensures)
@@ -324,9 +234,6 @@ function-expression-requires t c =
 
 pub function-returns : goal.function-returns
 function-returns t c = fn_done c.requires c.field_at-n.ensures c.field_at-e.ensures _ c.from_root-scope.ensures c.expression.ensures
-
-pub row-span_of-span-requires : goal.row-span_of-span-requires
-row-span_of-span-requires t c = c.requires.0
 
 pub row-returns : goal.row-returns
 row-returns t c = row_then _ _ _ _ _ _ c.span_of-span.ensures c.in_ok-elements.ensures c.gather.ensures
