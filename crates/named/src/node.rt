@@ -34,12 +34,12 @@ pub const SCRIBE: u8 = 14;
 
 pub const JET: u8 = 15;
 
-// A lent table, and how many nodes stand in it. It has no model: from a model a caller would not learn that what its functions store,
-// they store into the bytes that were lent.
+// A lent table, and the number of its next node; clauses name both. It has no model: from a model a caller would not learn that what its
+// functions store, they store into the bytes that were lent.
 #[derive(Drop)]
 pub struct Nodes<'a> {
-    bytes: &'a mut [u8],
-    next: u16,
+    pub bytes: &'a mut [u8],
+    pub next: u16,
 }
 
 impl<'a> Nodes<'a> {
