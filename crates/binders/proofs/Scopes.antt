@@ -22,7 +22,8 @@ use Rattle.std.specs.Prelude.{Option as Answer, Some, None, is_some}
 use Rattle.laws.specs.Table.{true_false}
 use Rattle.shapes.proofs.Places.{places_row}
 use Rattle.binders.specs.Binders.{type_for, seek, scope_in}
-use Rattle.binders.specs.Memos.{Seen, absent, present, scope_of, base_of, Newest, found, passed}
+use Rattle.binders.specs.declared.Binding.{Binding as Entry}
+use Rattle.binders.specs.Memos.{Seen, absent, present, entry_at, scope_of, base_of, Newest, found, passed}
 use Rattle.binders.proofs.Sights.{Skips, seen_none, skips_all, skips_next, skips_found}
 
 -- parameters have as many types, each what its second field names
@@ -91,15 +92,15 @@ module _ {b i : List ℕ} {f : ℕ} (s : Stands b i f FUNCTION) where
           rw (in_scope x (fun_of b i f)) (seen_gives (skips_found w j o (omega arith) (rw q (type_place n k l z o v)) (present [] stands (name_is x _ y g h) refl) refl))
 
 -- a search for x in n live bindings: those from `at` on have not the name
-pub record Older (b i bs : List ℕ) (n : ℕ) (base : Answer ℕ) (x at : ℕ) : Type 0 where
+pub record Older (b i : List ℕ) (bs : List Entry) (n : ℕ) (base : Answer ℕ) (x at : ℕ) : Type 0 where
   pub low : at ≤ n
   pub rest : type_for x (scope_of b i bs n base) ≡ type_for x (scope_of b i bs at base)
 
 -- no binding was searched yet
-pub older_none : (b i bs : List ℕ) (n : ℕ) (base : Answer ℕ) (x : ℕ) → Older b i bs n base x n
+pub older_none : (b i : List ℕ) (bs : List Entry) (n : ℕ) (base : Answer ℕ) (x : ℕ) → Older b i bs n base x n
 older_none b i bs n base x = record { low = omega arith; rest = refl }
 
-module _ {b i bs : List ℕ} {n : ℕ} {base : Answer ℕ} {x at : ℕ} (w : Older b i bs n base x at) where
+module _ {b i : List ℕ} {bs : List Entry} {n : ℕ} {base : Answer ℕ} {x at : ℕ} (w : Older b i bs n base x at) where
   -- all have not the name
   pub older_all : at ≤ 0 → Newest b i bs n base x None
   unfolding scope_of
@@ -107,21 +108,21 @@ module _ {b i bs : List ℕ} {n : ℕ} {base : Answer ℕ} {x at : ℕ} (w : Old
 
   -- the next binding
   module _ (u : ℕ) (o : 0 < at) (e : u ≡ at - 1) where
-    older_here : type_for x (scope_of b i bs n base) ≡ seek (find x (pattern_of b i (get_or bs (2 * u) 0))) (type_of b i (get_or bs (2 * u + 1) 0)) (type_for x (scope_of b i bs u base))
+    older_here : type_for x (scope_of b i bs n base) ≡ seek (find x (pattern_of b i (entry_at bs u).pattern)) (type_of b i (entry_at bs u).of) (type_for x (scope_of b i bs u base))
     unfolding scope_of type_for
     older_here = let z : at ≡ suc u = omega arith in w.rest ∙ ap (λ k. type_for x (scope_of b i bs k base)) z
 
-    pub older_next : {s : Answer ℕ} → Seen b i x (pattern_of b i (get_or bs (2 * u) 0)) (type_of b i (get_or bs (2 * u + 1) 0)) s → is_some s ≡ false → Older b i bs n base x u
+    pub older_next : {s : Answer ℕ} → Seen b i x (pattern_of b i (entry_at bs u).pattern) (type_of b i (entry_at bs u).of) s → is_some s ≡ false → Older b i bs n base x u
     unfolding seek
     older_next h z = record { low = omega (arith, w.low); rest = older_here ∙ rw (seen_none h z) }
 
-    pub older_found : {s : Answer ℕ} → Seen b i x (pattern_of b i (get_or bs (2 * u) 0)) (type_of b i (get_or bs (2 * u + 1) 0)) s → is_some s ≡ true → Newest b i bs n base x s
+    pub older_found : {s : Answer ℕ} → Seen b i x (pattern_of b i (entry_at bs u).pattern) (type_of b i (entry_at bs u).of) s → is_some s ≡ true → Newest b i bs n base x s
     unfolding seek
     older_found (absent f) there = absurd (true_false (sym there))
     older_found (present ks h f l) there = found h (older_here ∙ rw f l)
 
 -- what the live bindings have of a name, and then the base: none, or a function
-module _ {b i bs : List ℕ} {n x : ℕ} {base : Answer ℕ} where
+module _ {b i : List ℕ} {bs : List Entry} {n x : ℕ} {base : Answer ℕ} where
   pub newest_found : {s : Answer ℕ} → Newest b i bs n base x s → is_some s ≡ true → Gives b i (type_for x (scope_of b i bs n base)) s
   newest_found (found h e) there = record_of h e
   newest_found (passed e) there = absurd (true_false (sym there))

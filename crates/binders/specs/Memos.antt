@@ -13,6 +13,7 @@ use Rattle.pattern.specs.Find.{find, params_of}
 use Rattle.pattern.specs.Seeks.{Memo}
 use Rattle.shapes.specs.Shapes.{products, leads}
 use Rattle.binders.specs.Binders.{fits, names, param_names, twice, Binding, binding, root_scope, scope_in, type_for}
+use Rattle.binders.specs.declared.Binding.{Binding as Entry}
 use Rattle.binders.specs.declared.Noted.{Noted}
 use Rattle.binders.specs.declared.Noted.TheVariants as notes
 
@@ -120,10 +121,14 @@ abbrev pub base_of : List ℕ → List ℕ → Option ℕ → List Binding
 base_of b i None = root_scope
 base_of b i (Some f) = scope_in (fun_of b i f)
 
--- the scope of n live bindings: entry k is its pattern's record and then its type's
-unfoldable pub scope_of : List ℕ → List ℕ → List ℕ → ℕ → Option ℕ → List Binding
+-- an entry of a row of live bindings: its pattern's record, and its type's
+abbrev pub entry_at : List Entry → ℕ → Entry
+entry_at bs k = get_or bs k (record { pattern = 0; of = 0 })
+
+-- the scope of n live bindings
+unfoldable pub scope_of : List ℕ → List ℕ → List Entry → ℕ → Option ℕ → List Binding
 scope_of b i bs zero base = base_of b i base
-scope_of b i bs (suc n) base = binding (pattern_of b i (get_or bs (2 * n) 0)) (type_of b i (get_or bs (2 * n + 1) 0)) ∷ scope_of b i bs n base
+scope_of b i bs (suc n) base = binding (pattern_of b i (entry_at bs n).pattern) (type_of b i (entry_at bs n).of) ∷ scope_of b i bs n base
 
 -- what may be bound: a pattern to a type that it fits
 pub record Binds (b i : List ℕ) (p t : ℕ) : Type 0 where
@@ -132,12 +137,12 @@ pub record Binds (b i : List ℕ) (p t : ℕ) : Type 0 where
   pub fit : fits (pattern_of b i p) (type_of b i t) ≡ true
 
 -- a row of n live bindings
-pub record Live (b i bs : List ℕ) (n : ℕ) (base : Option ℕ) : Type 0 where
-  pub room : 2 * n ≤ length bs
-  pub each : (j : ℕ) → j < n → Binds b i (get_or bs (2 * j) 0) (get_or bs (2 * j + 1) 0)
+pub record Live (b i : List ℕ) (bs : List Entry) (n : ℕ) (base : Option ℕ) : Type 0 where
+  pub room : n ≤ length bs
+  pub each : (j : ℕ) → j < n → Binds b i (entry_at bs j).pattern (entry_at bs j).of
   pub based : (f : ℕ) → base ≡ Some f → Stands b i f FUNCTION
 
 -- what the live bindings have of the name x: record s's type, or nothing, so that it is for the base to say
-pub data Newest (b i bs : List ℕ) (n : ℕ) (base : Option ℕ) (x : ℕ) : Option ℕ → Type 0 where
+pub data Newest (b i : List ℕ) (bs : List Entry) (n : ℕ) (base : Option ℕ) (x : ℕ) : Option ℕ → Type 0 where
   found : {s : ℕ} → Stands b i s TYPE → type_for x (scope_of b i bs n base) ≡ some (type_of b i s) → Newest b i bs n base x (Some s)
   passed : type_for x (scope_of b i bs n base) ≡ type_for x (base_of b i base) → Newest b i bs n base x None

@@ -344,11 +344,18 @@ fn type_of_param(book: &Book, f: u16, name: u16) -> Option<u16>
     None
 }
 
+// A live binding: its pattern's record, and its type's.
+#[derive(Clone, Copy)]
+pub struct Binding {
+    pub pattern: u16,
+    pub of: u16,
+}
+
 // The type of a name in the row of live bindings, from the newest on. One row of what was sought in vain serves them all, since they
 // may share their parts.
 fn newest_type(
     book: &Book,
-    bindings: &[u16],
+    bindings: &[Binding],
     live: usize,
     base: Option<u16>,
     name: u16,
@@ -360,9 +367,8 @@ fn newest_type(
 {
     missing.fill(false);
     for at in (0..live).rev() {
-        let p = bindings[2 * at];
-        let t = bindings[2 * at + 1];
-        let found = type_in(book, p, t, name, missing);
+        let binding = bindings[at];
+        let found = type_in(book, binding.pattern, binding.of, name, missing);
         if found.is_some() {
             return found;
         }
@@ -373,7 +379,7 @@ fn newest_type(
 // The type of a name in scope: of its newest binding, or in the base.
 pub fn type_for(
     book: &Book,
-    bindings: &[u16],
+    bindings: &[Binding],
     live: usize,
     base: Option<u16>,
     name: u16,

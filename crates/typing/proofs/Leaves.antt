@@ -23,7 +23,8 @@ use Rattle.pattern.specs.Find.{params_of}
 use Rattle.shapes.specs.Shapes.{type_is}
 use Rattle.shapes.specs.Views.{Gives}
 use Rattle.binders.specs.Binders.{fits, names, binding, twice, param_names, scope_in, type_for}
-use Rattle.binders.specs.Memos.{Known, Fitted, Live, scope_of}
+use Rattle.binders.specs.declared.Binding.{Binding as Entry}
+use Rattle.binders.specs.Memos.{Known, Fitted, Live, entry_at, scope_of}
 use Rattle.typing.specs.Check.{Checked, hold, agree, binds, known, check, check_fun}
 use Rattle.typing.specs.Cycle.{Rows, Scoped, Enough, Stays, Holds, Bound, live_after}
 use Rattle.typing.specs.declared.cycle.Judge.{Judge}
@@ -53,7 +54,7 @@ pub doubled_long : {b i : List ℕ} {q : Judge} {r kd : ℕ} → Rows b i q → 
 doubled_long o k = omega (arith, stands_few k, o.long)
 
 -- another memo and another row of bindings, and the rest as it was
-pub record Beside (q : Judge) (m bs : List ℕ) (q' : Judge) : Type 0 where
+pub record Beside (q : Judge) (m : List ℕ) (bs : List Entry) (q' : Judge) : Type 0 where
   pub doubled : q'.doubled.now ≡ q.doubled.now
   pub memo : q'.memo.now ≡ m
   pub vain : q'.vain ≡ q.vain
@@ -67,7 +68,7 @@ module _ {b i : List ℕ} {q : Judge} {n : ℕ} {base : Answer ℕ} (s : Scoped 
   -- where the row of bindings stays as it is
   unbound : {a : Checked} {q' : Judge} → a ≡ binds r (pattern_of b i p) (type_of b i t) → (a ≡ Ok tt → ⊥) → Beside q m₁ q.bindings q' → Bound b i (binds r (pattern_of b i p) (type_of b i t)) p t n base q a q'
   unbound z w o = record {
-    stays = record { is = z; doubled = o.doubled; known = subst (Known b i) (sym o.memo) d.known; missing = ap length o.vain ∙ s.rows.missing; kept = ap length o.bindings; before = λ j h. ap (λ bs. get_or bs j 0) o.bindings };
+    stays = record { is = z; doubled = o.doubled; known = subst (Known b i) (sym o.memo) d.known; missing = ap length o.vain ∙ s.rows.missing; kept = ap length o.bindings; before = λ j h. ap (λ bs. entry_at bs j) o.bindings };
     newer = λ u. absurd (w u);
   }
 
@@ -96,7 +97,7 @@ module _ {b i : List ℕ} {q : Judge} {n : ℕ} {base : Answer ℕ} (s : Scoped 
             known = subst (Known b i) (sym o.memo) d.known;
             missing = ap length o.vain ∙ s.rows.missing;
             kept = ap length o.bindings ∙ wider_length s h p t;
-            before = λ j v. ap (λ bs. get_or bs j 0) o.bindings ∙ wider_before s h p t j v;
+            before = λ j v. ap (λ bs. entry_at bs j) o.bindings ∙ wider_before s h p t j v;
           };
           newer = λ v. subst (λ bs. Holds b i bs (n + 1) base (binding (pattern_of b i p) (type_of b i t) ∷ scope_of b i q.bindings n base)) (sym o.bindings) (wider_holds s h p t (record { pattern = k; type = l; fit = fit }));
         }
@@ -121,11 +122,11 @@ module _ {b i : List ℕ} {f : ℕ} (k : Stands b i f FUNCTION) where
   unfolding as_fun check_fun params_of
   fun_is n e z y = rw (y, z, stands_tree k FN (function_mark k))
 
-  base_is : (bs : List ℕ) → scope_of b i bs 0 (Some f) ≡ scope_in (fun_of b i f)
+  base_is : (bs : List Entry) → scope_of b i bs 0 (Some f) ≡ scope_in (fun_of b i f)
   unfolding scope_of
   base_is bs = refl
 
-  pub fun_live : {bs : List ℕ} → Live b i bs 0 (Some f)
+  pub fun_live : {bs : List Entry} → Live b i bs 0 (Some f)
   fun_live = record { room = omega arith; each = λ j h. absurd (omega arith); based = λ g e. let z : f ≡ g = cc in subst (λ h. Stands b i h FUNCTION) z k }
 
   module _ {q : Judge} (o : Rows b i q) {y : Checked} (w : y ≡ hold (not (get_or q.doubled.now f false)) faults.Name f) where

@@ -27,6 +27,7 @@ use Rattle.book.proofs.Roles.{record_begins}
 use Rattle.book.proofs.Standing.{stands_mark, stands_tree, head_below, each_below, function_mark}
 use Rattle.shapes.specs.Wholes.{value_agrees}
 use Rattle.binders.specs.Binders.{names, twice, root_scope}
+use Rattle.binders.specs.declared.Binding.{Binding as Entry}
 use Rattle.binders.specs.Memos.{Known, Doubled, Live, scope_of}
 use Rattle.typing.specs.Check.{Checked, agree, check, check_fun}
 use Rattle.typing.specs.declared.cycle.Judge.{Judge}
@@ -97,10 +98,10 @@ abbrev pattern_marks : List ℕ
 pattern_marks = PI ∷ PN ∷ PT ∷ []
 
 -- the root's scope
-pub root_live : {b i bs : List ℕ} → Live b i bs 0 None
+pub root_live : {b i : List ℕ} {bs : List Entry} → Live b i bs 0 None
 root_live = record { room = omega arith; each = λ j h. absurd (omega arith); based = λ f e. absurd (let z : ◌≡◌ {A = ℕ} 0 1 = cc in omega arith) }
 
-pub root_scope_lem : (b i bs : List ℕ) → scope_of b i bs 0 None ≡ root_scope
+pub root_scope_lem : (b i : List ℕ) (bs : List Entry) → scope_of b i bs 0 None ≡ root_scope
 unfolding scope_of
 root_scope_lem b i bs = refl
 
@@ -160,7 +161,7 @@ beyond_none {b} {n = n} v w h s =
     omega (arith, head_below first FN (function_mark first) 0 tt tt)
 
 -- what the first judgement works on
-pub rows_first : {b i : List ℕ} {q : Judge} {n : ℕ} → Valid b i n → Tiles b i n → Doubled b i n q.doubled.now → Known b i q.memo.now → length q.vain ≡ 4096 → length q.bindings ≡ 130560 → Rows b i q
+pub rows_first : {b i : List ℕ} {q : Judge} {n : ℕ} → Valid b i n → Tiles b i n → Doubled b i n q.doubled.now → Known b i q.memo.now → length q.vain ≡ 4096 → length q.bindings ≡ 65280 → Rows b i q
 rows_first {n = n} v w d k m l = record {
   long = d.size;
   patterns = λ r s. by_lt r n (λ h. d.patterns r h s.is) (λ h. d.beyond r h ∙ rw (beyond_once v w h s));

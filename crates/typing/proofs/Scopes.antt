@@ -12,22 +12,23 @@ use Rattle.std.specs.Prelude.{Option as Answer}
 use Rattle.laws.specs.Order.{by_lt}
 use Rattle.book.specs.Tree.{type_of, pattern_of}
 use Rattle.binders.specs.Binders.{binding}
-use Rattle.binders.specs.Memos.{Binds, Live, scope_of}
+use Rattle.binders.specs.declared.Binding.{Binding as Entry}
+use Rattle.binders.specs.Memos.{Binds, Live, entry_at, scope_of}
 use Rattle.typing.specs.declared.cycle.Judge.{Judge}
 use Rattle.typing.specs.Check.{Checked}
 use Rattle.typing.specs.Cycle.{Rows, Scoped, Stays, Holds}
 
 -- two rows alike in their first n bindings
-module _ (b i bs bs' : List ℕ) (base : Answer ℕ) where
-  scope_same : (n : ℕ) → ((j : ℕ) → j < 2 * n → get_or bs' j 0 ≡ get_or bs j 0) → scope_of b i bs' n base ≡ scope_of b i bs n base
+module _ (b i : List ℕ) (bs bs' : List Entry) (base : Answer ℕ) where
+  scope_same : (n : ℕ) → ((j : ℕ) → j < n → entry_at bs' j ≡ entry_at bs j) → scope_of b i bs' n base ≡ scope_of b i bs n base
   unfolding scope_of
   scope_same zero h = refl
-  scope_same (suc n) h = rw (h (2 * n) (omega arith), h (2 * n + 1) (omega arith), scope_same n (λ j o. h j (omega arith)))
+  scope_same (suc n) h = rw (h n (omega arith), scope_same n (λ j o. h j (omega arith)))
 
-  live_same : (n : ℕ) → length bs' ≡ length bs → ((j : ℕ) → j < 2 * n → get_or bs' j 0 ≡ get_or bs j 0) → Live b i bs n base → Live b i bs' n base
+  live_same : (n : ℕ) → length bs' ≡ length bs → ((j : ℕ) → j < n → entry_at bs' j ≡ entry_at bs j) → Live b i bs n base → Live b i bs' n base
   live_same n l h v = record {
     room = omega (arith, v.room);
-    each = λ j o. rw (h (2 * j) (omega arith), h (2 * j + 1) (omega arith)) (v.each j o);
+    each = λ j o. rw (h j o) (v.each j o);
     based = v.based;
   }
 
@@ -51,36 +52,30 @@ module _ {b i : List ℕ} {v : Checked} {n : ℕ} {q : Judge} {c : Checked} {q' 
 
 -- one more binding
 module _ {b i : List ℕ} {q : Judge} {n : ℕ} {base : Answer ℕ} (s : Scoped b i q n base) (h : n < 65280) (p t : ℕ) where
-  abbrev pub wider : List ℕ
-  wider = set (set q.bindings (2 * n) p) (2 * n + 1) t
+  abbrev bound_entry : Entry
+  bound_entry = record { pattern = p; of = t }
 
-  fits_two : 2 * n + 1 < length q.bindings
-  fits_two = omega (arith, s.rows.room)
+  abbrev pub wider : List Entry
+  wider = set q.bindings n bound_entry
 
-  pub second_fits_lem : 2 * n + 1 < length (set q.bindings (2 * n) p)
-  second_fits_lem = omega (arith, fits_two, length-set q.bindings (2 * n) p)
+  pub wider_before : (j : ℕ) → j < n → entry_at wider j ≡ entry_at q.bindings j
+  wider_before j o = get_or-set_other q.bindings n j _ _ (λ z. omega arith)
 
-  pub wider_before : (j : ℕ) → j < 2 * n → get_or wider j 0 ≡ get_or q.bindings j 0
-  wider_before j o = get_or-set_other (set q.bindings (2 * n) p) (2 * n + 1) j t 0 (λ z. omega arith) ∙ get_or-set_other q.bindings (2 * n) j p 0 (λ z. omega arith)
-
-  wider_pattern : get_or wider (2 * n) 0 ≡ p
-  wider_pattern = get_or-set_other (set q.bindings (2 * n) p) (2 * n + 1) (2 * n) t 0 (λ z. omega arith) ∙ get_or-set_same q.bindings (2 * n) p 0 (omega (arith, fits_two))
-
-  wider_type : get_or wider (2 * n + 1) 0 ≡ t
-  wider_type = get_or-set_same (set q.bindings (2 * n) p) (2 * n + 1) t 0 (omega (arith, fits_two, length-set q.bindings (2 * n) p))
+  wider_last : entry_at wider n ≡ bound_entry
+  wider_last = get_or-set_same q.bindings n _ _ (omega (arith, s.rows.room))
 
   pub wider_length : length wider ≡ length q.bindings
-  wider_length = length-set (set q.bindings (2 * n) p) (2 * n + 1) t ∙ length-set q.bindings (2 * n) p
+  wider_length = length-set q.bindings n bound_entry
 
   pub wider_holds : Binds b i p t → Holds b i wider (n + 1) base (binding (pattern_of b i p) (type_of b i t) ∷ scope_of b i q.bindings n base)
   unfolding scope_of
   wider_holds d = rw (add-one n) (record {
     live = record {
-      room = omega (arith, fits_two, wider_length);
+      room = omega (arith, s.rows.room, wider_length);
       each = λ j o. by_lt j n
-          (λ l. rw (wider_before (2 * j) (omega arith), wider_before (2 * j + 1) (omega arith)) (s.live.each j l))
-          (λ l. let e : j ≡ n = omega arith in rw (e, wider_pattern, wider_type) d);
+          (λ l. rw (wider_before j l) (s.live.each j l))
+          (λ l. let e : j ≡ n = omega arith in rw (e, wider_last) d);
       based = s.live.based;
     };
-    is = rw (wider_pattern, wider_type, scope_same b i q.bindings wider base n wider_before);
+    is = rw (wider_last, scope_same b i q.bindings wider base n wider_before);
   })

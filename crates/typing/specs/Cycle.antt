@@ -12,7 +12,8 @@ use Rattle.book.specs.Tree.{Stmts, stmts_at, group, tree, type_of, pattern_of, e
 use Rattle.parts.specs.Parts.{span_at}
 use Rattle.shapes.specs.Shapes.{type_is, has_places}
 use Rattle.binders.specs.Binders.{Binding, binding}
-use Rattle.binders.specs.Memos.{Known, pattern_twice, params_twice, Live, scope_of}
+use Rattle.binders.specs.declared.Binding.{Binding as Entry}
+use Rattle.binders.specs.Memos.{Known, pattern_twice, params_twice, Live, entry_at, scope_of}
 use Rattle.typing.specs.declared.cycle.Judge.{Judge}
 use Rattle.typing.specs.Check.{Checked, agree, binds, variant_type, check, statements}
 
@@ -29,7 +30,7 @@ pub record Rows (b i : List ℕ) (q : Judge) : Type 0 where
   pub functions : (r : ℕ) → Stands b i r FUNCTION → get_or q.doubled.now r false ≡ params_twice b i r
   pub known : Known b i q.memo.now
   pub missing : length q.vain ≡ 4096
-  pub room : length q.bindings ≡ 130560
+  pub room : length q.bindings ≡ 65280
 
 -- where n bindings are live
 pub record Scoped (b i : List ℕ) (q : Judge) (n : ℕ) (base : Option ℕ) : Type 0 where
@@ -47,10 +48,10 @@ pub record Stays (b i : List ℕ) (v : Checked) (n : ℕ) (q : Judge) (c : Check
   pub known : Known b i q'.memo.now
   pub missing : length q'.vain ≡ 4096
   pub kept : length q'.bindings ≡ length q.bindings
-  pub before : (j : ℕ) → j < 2 * n → get_or q'.bindings j 0 ≡ get_or q.bindings j 0
+  pub before : (j : ℕ) → j < n → entry_at q'.bindings j ≡ entry_at q.bindings j
 
 -- the row holds n live bindings, which make the scope sc
-pub record Holds (b i bs : List ℕ) (n : ℕ) (base : Option ℕ) (sc : List Binding) : Type 0 where
+pub record Holds (b i : List ℕ) (bs : List Entry) (n : ℕ) (base : Option ℕ) (sc : List Binding) : Type 0 where
   pub live : Live b i bs n base
   pub is : scope_of b i bs n base ≡ sc
 

@@ -9,7 +9,7 @@ ghost use Rattle.binders.specs.Memos.{scope_of};
 ghost use Rattle.typing.specs.Check.{agree, hold, binds, check, check_fun};
 ghost use Rattle.typing.specs.Cycle.{Rows, Scoped, Enough, Stays, Bound, Stated, ArmAt, ArmsAt, Places, parts_of, row_of, match_of, arms_from, arm_of, statement_of, block_of, live_after};
 
-use binders::{fits, type_for};
+use binders::{Binding, fits, type_for};
 use book::fault::{Fault, Refusal};
 use book::format::{CK, EB, EH, EM, EV, SA, TS};
 use book::record::Book;
@@ -18,13 +18,13 @@ use shapes::part::{has_places, is_unit, place, type_of};
 use shapes::whole::agrees;
 
 // What judgements work on: `doubled` says which patterns and functions have a name twice, `memo` which patterns are known to fit which types,
-// `vain` serves a name's search, and `bindings` has the live bindings, a pattern and a type each, with room for 256 of them at each depth.
+// `vain` serves a name's search, and `bindings` has the live bindings, with room for 256 of them at each depth.
 #[derive(Drop)]
 pub struct Judge<'a> {
     pub doubled: &'a [bool],
     pub memo: &'a mut [u32],
     pub vain: [bool; 4096],
-    pub bindings: [u16; 130560],
+    pub bindings: [Binding; 65280],
 }
 
 // Where a judgement is made: so many bindings are live, behind the base: a function, or none.
@@ -99,8 +99,7 @@ impl Judge<'_> {
     {
         agree(fits(book, p, t, self.memo), r)?;
         hold(!self.doubled[p as usize], Fault::Name, r)?;
-        self.bindings[2 * scope.live] = p;
-        self.bindings[2 * scope.live + 1] = t;
+        self.bindings[scope.live] = Binding { pattern: p, of: t };
         Ok(())
     }
 

@@ -12,7 +12,7 @@ ghost use Rattle.typing.specs.Cycle.{Among, Rows, Stays};
 ghost use Rattle.typing.specs.Whole.{in_order, value_at, function_at, checking, check_of};
 
 use crate::cycle::{Judge, Scope, agree};
-use binders::doubles;
+use binders::{Binding, doubles};
 use book::fault::Refusal;
 use book::format::{FUNCTION, VALUE, kind_of};
 use book::read::index_book;
@@ -62,7 +62,7 @@ fn sized<const N: usize>(book: &Book, n: u16, doubled: &[bool]) -> Result<(), Re
         doubled,
         memo: &mut memo,
         vain: [false; 4096],
-        bindings: [0; 130560],
+        bindings: [Binding { pattern: 0, of: 0 }; 65280],
     };
     expressions(book, n, &mut judge)
 }
