@@ -1,9 +1,8 @@
 -- What is printed of READ's answer.
 -- Assumes nothing.
 use Rattle.book.specs.declared.fault.Refusal.{Refusal}
-use Rattle.std.specs.Prelude.{ℕ, List, codes, Result, Ok, Err}
-use Rattle.console.specs.Lines.{count_line, refusal_line}
+use Rattle.std.specs.Prelude.{ℕ, List, codes, Result}
+use Rattle.console.specs.Lines.{answer_line}
 
 abbrev pub shown : Result ℕ Refusal → List ℕ
-shown (Ok n) = count_line (codes "records") n
-shown (Err why) = refusal_line why
+shown = answer_line (codes "records")
