@@ -81,14 +81,13 @@ fn run_table(
 {
     let mut row = [0u16; 4096];
     number_values(book, &mut row);
-    let p = seed_cells(book, &row, cells);
-    if p.full {
+    let Some(used) = seed_cells(book, &row, cells) else {
         clear(cells);
         return Err(Refusal {
             fault: Fault::Cells,
             place: 0,
         });
-    }
+    };
     let end = run_machine(
         book,
         witnesses,
@@ -96,7 +95,7 @@ fn run_table(
         nodes,
         cells,
         (count - 1) as u16,
-        p.used,
+        used,
     );
     answer_of(cells, end)
 }
