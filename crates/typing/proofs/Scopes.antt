@@ -1,6 +1,6 @@
 -- Laws of the row of live bindings: it makes the same scope as long as they stay, and one more makes the scope wider.
 -- Assumes nothing.
-use Prim.Native.Nat.{ℕ, zero, suc, ◌+◌, ◌*◌, ◌<◌}
+use Prim.Native.Nat.{ℕ, zero, suc, ◌+◌, ◌<◌}
 use mathlib.Core.Bool.{false}
 use mathlib.Core.List.{List, ◌∷◌}
 use mathlib.Core.Path.{◌≡◌, refl, ap, ◌∙◌}
