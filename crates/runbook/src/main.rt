@@ -24,17 +24,13 @@ const TABLE: usize = 327675;
 // A value's text is cut after so many characters: a value that shares its parts may be wider than the world.
 const MOST: usize = 65536;
 
-// In the row of what is left to write: a pair's second part is written, and its parenthesis is to be closed. No cell has this number.
-const CLOSE: u16 = 65535;
-
-// Where the text of a value is: its length, with what did not fit; how many pairs are open; the cell that is next, unless one was just
-// written whole.
+// Where the text of a value is: its length, with what did not fit; how many pairs are open; the cell that is next, none where one was
+// just written whole. The row beside it has for each open pair its second part, none where that is written and the pair is to be closed.
 #[derive(Clone, Copy)]
 struct Place {
     len: usize,
     open: usize,
-    cell: u16,
-    whole: bool,
+    next: Option<u16>,
 }
 
 fn print(out: &mut impl Write, text: &[u8]) -> io::Result<()> {
@@ -49,7 +45,7 @@ fn put(text: &mut [u8], at: usize, c: u8) {
 }
 
 // Two characters, and then the cell, or what follows a whole one.
-fn put_two(text: &mut [u8], s: Place, a: u8, b: u8, cell: u16, whole: bool) -> Place
+fn put_two(text: &mut [u8], s: Place, a: u8, b: u8, next: Option<u16>) -> Place
     requires { s.len ≤ 65536 }
     ensures len { result.len ≡ s.len + 2 }
     ensures pairs { result.open ≡ s.open }
@@ -59,13 +55,12 @@ fn put_two(text: &mut [u8], s: Place, a: u8, b: u8, cell: u16, whole: bool) -> P
     Place {
         len: s.len + 2,
         open: s.open,
-        cell: cell,
-        whole: whole,
+        next,
     }
 }
 
 // Opens a pair: its second part is left to write.
-fn open(text: &mut [u8], row: &mut [u16], s: Place, first: u16, second: u16) -> Place
+fn open(text: &mut [u8], row: &mut [Option<u16>], s: Place, first: u16, second: u16) -> Place
     requires open_fits { s.open ≤ s.len }
     requires len_fits { s.len ≤ 65536 }
     requires row_fits { 65536 < length row.old }
@@ -74,35 +69,33 @@ fn open(text: &mut [u8], row: &mut [u16], s: Place, first: u16, second: u16) -> 
 {
     let at = s.open;
     put(text, s.len, b'(');
-    row[at] = second;
+    row[at] = Some(second);
     Place {
         len: s.len + 1,
         open: at + 1,
-        cell: first,
-        whole: false,
+        next: Some(first),
     }
 }
 
 // Begins the next cell. No more pairs are open than there are characters, since each has its parenthesis.
-fn begin(cells: &[u8], text: &mut [u8], row: &mut [u16], s: Place) -> Place
+fn begin(cells: &[u8], cell: u16, text: &mut [u8], row: &mut [Option<u16>], s: Place) -> Place
     requires open_fits { s.open ≤ s.len }
     requires len_fits { s.len ≤ 65536 }
     requires row_fits { 65536 < length row.old }
     ensures grows { s.len < result.len }
     ensures open_fits { result.open ≤ result.len }
 {
-    let part = left_at(cells, s.cell);
-    let kind = kind_at(cells, s.cell);
-    match kind {
-        UNIT => put_two(text, s, b'(', b')', 0, true),
-        LEFT => put_two(text, s, b'L', b' ', part, false),
-        RIGHT => put_two(text, s, b'R', b' ', part, false),
-        _ => open(text, row, s, part, right_at(cells, s.cell)),
+    let part = left_at(cells, cell);
+    match kind_at(cells, cell) {
+        UNIT => put_two(text, s, b'(', b')', None),
+        LEFT => put_two(text, s, b'L', b' ', Some(part)),
+        RIGHT => put_two(text, s, b'R', b' ', Some(part)),
+        _ => open(text, row, s, part, right_at(cells, cell)),
     }
 }
 
 // Goes on in the pair that was opened last: to its second part, or to its end.
-fn go_on(text: &mut [u8], row: &mut [u16], s: Place) -> Place
+fn go_on(text: &mut [u8], row: &mut [Option<u16>], s: Place) -> Place
     requires open_fits { s.open ≤ s.len }
     requires len_fits { s.len ≤ 65536 }
     requires row_fits { 65536 < length row.old }
@@ -112,37 +105,35 @@ fn go_on(text: &mut [u8], row: &mut [u16], s: Place) -> Place
 {
     let at = s.open - 1;
     let second = row[at];
-    if second == CLOSE {
+    if second.is_none() {
         put(text, s.len, b')');
         return Place {
             len: s.len + 1,
             open: at,
-            cell: 0,
-            whole: true,
+            next: None,
         };
     }
-    row[at] = CLOSE;
-    put_two(text, s, b',', b' ', second, false)
+    row[at] = None;
+    put_two(text, s, b',', b' ', second)
 }
 
 // Writes the text of a cell into room for MOST characters, and answers its length, or more than MOST where it is cut.
-fn spell(cells: &[u8], cell: u16, text: &mut [u8], row: &mut [u16]) -> usize
+fn spell(cells: &[u8], cell: u16, text: &mut [u8], row: &mut [Option<u16>]) -> usize
     requires { 65536 < length row.old }
 {
     let mut s = Place {
         len: 0,
         open: 0,
-        cell: cell,
-        whole: false,
+        next: Some(cell),
     };
+    // Not a `for`: a step writes one character or two.
     while s.len <= MOST {
-        if s.whole {
-            if s.open == 0 {
-                break;
-            }
+        if let Some(next) = s.next {
+            s = begin(cells, next, text, row, s);
+        } else if 0 < s.open {
             s = go_on(text, row, s);
         } else {
-            s = begin(cells, text, row, s);
+            break;
         }
     }
     s.len
@@ -154,7 +145,7 @@ fn print_spelled(
     cells: &[u8],
     cell: u16,
     text: &mut [u8],
-    row: &mut [u16],
+    row: &mut [Option<u16>],
 ) -> io::Result<()>
     requires { 65536 < length row.old }
 {
@@ -172,7 +163,7 @@ fn print_spelled(
 // The row is one longer than the text: each of its entries has a parenthesis there.
 fn print_value(out: &mut impl Write, cells: &[u8], cell: u16) -> io::Result<()> {
     let mut text = [0u8; MOST];
-    let mut row = [0u16; 65537];
+    let mut row = [None; 65537];
     print_spelled(out, cells, cell, &mut text, &mut row)
 }
 
@@ -206,10 +197,7 @@ fn book_size(announced: usize, n: usize) -> usize
     requires { n ≤ announced }
     ensures { result ≤ announced }
 {
-    if n < announced {
-        return n + 1 - n % 2;
-    }
-    n
+    if n < announced { n + 1 - n % 2 } else { n }
 }
 
 // Reads the book, into a part as long as it is announced, and the witness list, and runs them.
