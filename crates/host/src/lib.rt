@@ -37,14 +37,11 @@ fn outcome_of(answer: Result<u16, Refusal>) -> LowerOutcome
             place: 0,
             count: n as u32,
         },
-        Err(why) => {
-            let fault = why.fault;
-            LowerOutcome {
-                number: fault_number(fault) as u32,
-                place: why.place as u32,
-                count: 0,
-            }
-        }
+        Err(why) => LowerOutcome {
+            number: fault_number(why.fault) as u32,
+            place: why.place as u32,
+            count: 0,
+        },
     }
 }
 
@@ -78,8 +75,8 @@ fn no_value(number: u32, place: u32) -> RunOutcome
     ensures { result ≡ ran number place 0 0 }
 {
     RunOutcome {
-        number: number,
-        place: place,
+        number,
+        place,
         count: 0,
         cell: 0,
     }
@@ -89,16 +86,13 @@ fn ran_of(answer: Result<Outcome, Refusal>) -> RunOutcome
     ensures { result ≡ ran_of answer }
 {
     match answer {
-        Ok(Outcome::Value { cell: v, count: n }) => RunOutcome {
+        Ok(Outcome::Value { cell, count }) => RunOutcome {
             number: 0,
             place: 0,
-            count: n as u32,
-            cell: v as u32,
+            count: count as u32,
+            cell: cell as u32,
         },
         Ok(Outcome::Failed) => no_value(0, 0),
-        Err(why) => {
-            let fault = why.fault;
-            no_value(fault_number(fault) as u32, why.place as u32)
-        }
+        Err(why) => no_value(fault_number(why.fault) as u32, why.place as u32),
     }
 }

@@ -42,15 +42,8 @@ fn print_kind(out: &mut impl Write, kind: u8) -> io::Result<()> {
 // How many operands a kind has.
 fn operands(kind: u8) -> usize {
     match kind {
-        1 => 0,
-        2 => 0,
-        7 => 2,
-        8 => 2,
-        9 => 2,
-        10 => 2,
-        11 => 2,
-        12 => 0,
-        13 => 2,
+        1 | 2 | 12 => 0,
+        7..=11 | 13 => 2,
         _ => 1,
     }
 }
