@@ -32,9 +32,8 @@ fn counted(records: u16) -> Outcome
 fn refused(why: Refusal) -> Outcome
     ensures { result ≡ refused why }
 {
-    let fault = why.fault;
     Outcome {
-        number: fault_number(fault) as u32,
+        number: fault_number(why.fault) as u32,
         place: why.place as u32,
         count: 0,
     }
