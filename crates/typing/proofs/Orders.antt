@@ -189,6 +189,12 @@ by_refusal : (b : List ℕ) (w : Refusal) → read_of b ≡ Err w → check_of b
 unfolding check_of
 by_refusal b w e = rw (e, check_of)
 
+-- what is judged, and then the count
+judged_answer : (n : ℕ) (c : Checked) → result_and c (Ok n) ≡ answer_of n c
+unfolding answer_of
+judged_answer n (Ok x) = refl
+judged_answer n (Err w) = refl
+
 module _ (b : List ℕ) {x : Result ℕ Refusal} (p : x ≡ read_of b) where
   module _ (n : ℕ) {i : List ℕ} (q : i ≡ index_of b) (e : x ≡ Ok n) where
     pub book_valid : Valid b i n
@@ -201,13 +207,8 @@ module _ (b : List ℕ) {x : Result ℕ Refusal} (p : x ≡ read_of b) where
       answer_is : check_of b ≡ answer_of n c
       answer_is = by_read b n (sym p ∙ e) ∙ rw (d, q)
 
-      pub check_passed : c ≡ Ok tt → Ok n ≡ check_of b
-      unfolding answer_of
-      check_passed f = sym (answer_is ∙ rw f)
-
-      pub check_refused : {w : Refusal} → c ≡ Err w → Err w ≡ check_of b
-      unfolding answer_of
-      check_refused f = sym (answer_is ∙ rw f)
+      pub check_judged : result_and c (Ok n) ≡ check_of b
+      check_judged = judged_answer n c ∙ sym answer_is
 
   pub read_refused : {w : Refusal} → x ≡ Err w → Err w ≡ check_of b
   read_refused {w} e = sym (by_refusal b w (sym p ∙ e))

@@ -28,8 +28,7 @@ pub fn check(book: &[u8]) -> Result<u16, Refusal>
     let indexed = index_book(book);
     let n = indexed.answer?;
     let book = Book::new(book, &indexed.index, n);
-    records(&book, n)?;
-    Ok(n)
+    records(&book, n).and(Ok(n))
 }
 
 // The records of a book that READ accepts: values, then functions, then the root.

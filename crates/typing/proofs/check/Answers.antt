@@ -1,7 +1,7 @@
 -- `check` meets its contract: READ's refusal, or what is judged of the records.
 -- Assumes nothing.
 use Rattle.std.proofs.lemmas.Result.{err_from_is_err_and}
-use Rattle.typing.proofs.Orders.{book_valid, book_tiles, check_passed, check_refused, read_refused}
+use Rattle.typing.proofs.Orders.{book_valid, book_tiles, check_judged, read_refused}
 use Rattle.typing.proofs.check.Goals as goal
 
 pub records-requires : goal.records-requires
@@ -10,12 +10,7 @@ records-requires c =
 
 pub returns : goal.returns
 returns c =
-    check_passed _ c.index_book-indexed.ensures.0 _ c.index_book-indexed.ensures.1 c.in_ok-n.was (rw c.new-book.ensures at c.records.ensures) c.in_ok-records.was
-
-pub returns-in_err-records : goal.returns-in_err-records
-returns-in_err-records c =
-    let p = err_from_is_err_and c.from_residual-in_err-records.result c.from_residual-in_err-records.ensures.1 in
-    rw (p.1, p.2) (check_refused _ c.index_book-indexed.ensures.0 _ c.index_book-indexed.ensures.1 c.in_ok-n.was (rw c.new-book.ensures at c.records.ensures) c.in_err-records.was)
+    rw c.and.ensures (check_judged _ c.index_book-indexed.ensures.0 _ c.index_book-indexed.ensures.1 c.in_ok-n.was (rw c.new-book.ensures at c.records.ensures))
 
 pub returns-in_err-n : goal.returns-in_err-n
 returns-in_err-n c =
