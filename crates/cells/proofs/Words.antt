@@ -11,7 +11,8 @@ use Rattle.jet.specs.Jets.{jet_of}
 use Rattle.cells.specs.Entries.{kind_at, left_at, right_at}
 use Rattle.cells.specs.Cells.{unit_cell, left_cell, right_cell, pair_cell, shape_at, store, store_value}
 use Rattle.cells.specs.Keeping.{Keeps, Under, Worded, Paired, of_word, unit_word, size_of}
-use Rattle.cells.proofs.Keepings.{keep_pair, pair_none, pair_half}
+use Rattle.cells.specs.declared.table.Kept.{Kept}
+use Rattle.cells.proofs.Keepings.{keep_pair}
 use Rattle.cells.proofs.Shapes.{unit_shape, left_shape, right_shape, pair_shape, no_unit, no_sum, no_pair}
 
 -- what the table of jets says of the jets 0 to 2
@@ -125,26 +126,16 @@ pub word_wide : {t : List ℕ} {x j i : ℕ} {r : Option ℕ} → j ≡ i → Wo
 word_wide e d = rw e d
 
 -- the cells of a word: a bit's, or those of its halves and then the pair's
-module _ {t t₁ : List ℕ} {u : ℕ} {q : Option ℕ} (v : ℕ) where
-  pub keep_bits : Keeps t u (λ n. store_value n (bit (eqb (v % 2) 1))) q t₁ → Keeps t u (λ n. store_value n (word 0 v)) q t₁
+module _ {t t₁ : List ℕ} {p q : Kept} (v : ℕ) where
+  pub keep_bits : Keeps t p (λ n. store_value n (bit (eqb (v % 2) 1))) q t₁ → Keeps t p (λ n. store_value n (word 0 v)) q t₁
   unfolding word
   keep_bits d = d
 
-  module _ {m : ℕ} (k : ℕ) (z : m ≡ 2 ^ (2 ^ k)) (d : Keeps t u (λ n. store_value n (word k (v / m))) q t₁) where
-    pub halves_none : q ≡ None → Keeps t u (λ n. store_value n (word (suc k) v)) None t₁
-    unfolding word
-    halves_none e = pair_none (word k (v / 2 ^ (2 ^ k))) (word k (v % 2 ^ (2 ^ k))) (rw z at d) e
+  pub keep_halves : {t₂ t₃ : List ℕ} {r s : Kept} {m : ℕ} (k : ℕ) → m ≡ 2 ^ (2 ^ k) → Keeps t p (λ n. store_value n (word k (v / m))) q t₁ → Keeps t₁ q (λ n. store_value n (word k (v % m))) r t₂ → Keeps t₂ r (λ n. store n pair_cell q.cell r.cell) s t₃ → Keeps t p (λ n. store_value n (word (suc k) v)) s t₃
+  unfolding word
+  keep_halves k e d f g = keep_pair (word k (v / 2 ^ (2 ^ k))) (word k (v % 2 ^ (2 ^ k))) (rw e at d) (rw e at f) g
 
-    module _ {a : ℕ} {t₂ : List ℕ} {r : Option ℕ} (e : q ≡ Some a) (f : Keeps t₁ (a + 1) (λ n. store_value n (word k (v % m))) r t₂) where
-      pub halves_half : r ≡ None → Keeps t u (λ n. store_value n (word (suc k) v)) None t₂
-      unfolding word
-      halves_half y = pair_half (word k (v / 2 ^ (2 ^ k))) (word k (v % 2 ^ (2 ^ k))) (rw z at d) e (rw z at f) y
-
-      pub keep_halves : {b : ℕ} {t₃ : List ℕ} {s : Option ℕ} → r ≡ Some b → Keeps t₂ (b + 1) (λ n. store n pair_cell a b) s t₃ → Keeps t u (λ n. store_value n (word (suc k) v)) s t₃
-      unfolding word
-      keep_halves y g = keep_pair (word k (v / 2 ^ (2 ^ k))) (word k (v % 2 ^ (2 ^ k))) (rw z at d) e (rw z at f) y g
-
-  pub keep_wide : {k : ℕ} (i : ℕ) → k ≡ i → Keeps t u (λ n. store_value n (word i v)) q t₁ → Keeps t u (λ n. store_value n (word k v)) q t₁
+  pub keep_wide : {k : ℕ} (i : ℕ) → k ≡ i → Keeps t p (λ n. store_value n (word i v)) q t₁ → Keeps t p (λ n. store_value n (word k v)) q t₁
   keep_wide i e d = rw e d
 
 -- the two words in the pair at cell x, whose kind is k

@@ -6,17 +6,16 @@ ghost use Rattle.cells.specs.Cells.{shape_at, store_value};
 ghost use Rattle.cells.specs.Entries.{left_at};
 ghost use Rattle.cells.specs.Keeping.{Keeps, Worded, Paired, Delivers, unit_word, size_of};
 
-use crate::table::{LEFT, PAIR, RIGHT, UNIT, keep, kind_at, left_at, right_at};
+use crate::table::{Kept, LEFT, PAIR, RIGHT, UNIT, from, keep, kind_at, left_at, right_at};
 use jet::jet_at;
 use std::marker::PhantomData;
 
-// Why a jet gives no cells: it failed, its value has another shape, it is not known, or its cells do not fit.
+// Why a jet gives no cells: it failed, its value has another shape, or it is not known.
 #[derive(Clone, Copy, PartialEq, Eq)]
 pub enum JetEnd {
     Failed,
     Stuck,
     Unknown,
-    Full,
 }
 
 // Words of one width. A width is a type and not a number, so that each has code of its own: a function that calls itself is not inlined,
@@ -35,10 +34,10 @@ trait Width {
         requires { k ≤ 3 }
         ensures { Worded cells.now k x result };
 
-    // Stores the cells of the number v as a word: the last of them.
-    fn store(cells: &mut [u8], used: u16, v: u8) -> Option<u16>
+    // Stores the cells of the number v as a word.
+    fn store(cells: &mut [u8], p: Kept, v: u8) -> Kept
         requires { k ≤ 3 }
-        ensures { Keeps cells.old used (λ n. store_value n (word k v)) result cells.new };
+        ensures { Keeps cells.old p (λ n. store_value n (word k v)) result cells.new };
 }
 
 // A bit.
@@ -65,14 +64,14 @@ fn bit_of(cells: &[u8], x: u16, n: u8) -> Option<u8>
 }
 
 // Stores a bit's cells.
-fn keep_bit(cells: &mut [u8], used: u16, set: bool) -> Option<u16>
-    ensures { Keeps cells.old used (λ n. store_value n (bit set)) result cells.new }
+fn keep_bit(cells: &mut [u8], p: Kept, set: bool) -> Kept
+    ensures { Keeps cells.old p (λ n. store_value n (bit set)) result cells.new }
 {
-    let unit = keep(cells, used, UNIT, 0, 0)?;
+    let unit = keep(cells, p, UNIT, 0, 0);
     if set {
-        keep(cells, unit + 1, RIGHT, unit, 0)
+        keep(cells, unit, RIGHT, unit.cell, 0)
     } else {
-        keep(cells, unit + 1, LEFT, unit, 0)
+        keep(cells, unit, LEFT, unit.cell, 0)
     }
 }
 
@@ -91,8 +90,8 @@ impl Width for Bit {
         }
     }
 
-    fn store(cells: &mut [u8], used: u16, v: u8) -> Option<u16> {
-        keep_bit(cells, used, v % 2 == 1)
+    fn store(cells: &mut [u8], p: Kept, v: u8) -> Kept {
+        keep_bit(cells, p, v % 2 == 1)
     }
 }
 
@@ -113,11 +112,11 @@ impl<H: Width> Width for Twice<H> {
         Some(high * H::span() + low)
     }
 
-    fn store(cells: &mut [u8], used: u16, v: u8) -> Option<u16> {
+    fn store(cells: &mut [u8], p: Kept, v: u8) -> Kept {
         let half = H::span();
-        let high = H::store(cells, used, v / half)?;
-        let low = H::store(cells, high + 1, v % half)?;
-        keep(cells, low + 1, PAIR, high, low)
+        let high = H::store(cells, p, v / half);
+        let low = H::store(cells, high, v % half);
+        keep(cells, low, PAIR, high.cell, low.cell)
     }
 }
 
@@ -148,15 +147,15 @@ fn words_at(cells: &[u8], x: u16, k: usize) -> Option<(u8, u8)>
 }
 
 // Stores the cells of the number v as a word of 2 ^ k bits.
-fn keep_word(cells: &mut [u8], used: u16, k: usize, v: u8) -> Option<u16>
+fn keep_word(cells: &mut [u8], p: Kept, k: usize, v: u8) -> Kept
     requires { k ≤ 3 }
-    ensures { Keeps cells.old used (λ n. store_value n (word k v)) result cells.new }
+    ensures { Keeps cells.old p (λ n. store_value n (word k v)) result cells.new }
 {
     match k {
-        0 => Bit::store(cells, used, v),
-        1 => TwoBits::store(cells, used, v),
-        2 => FourBits::store(cells, used, v),
-        _ => Byte::store(cells, used, v),
+        0 => Bit::store(cells, p, v),
+        1 => TwoBits::store(cells, p, v),
+        2 => FourBits::store(cells, p, v),
+        _ => Byte::store(cells, p, v),
     }
 }
 
@@ -170,47 +169,47 @@ fn argument_size(j: u16) -> usize
 }
 
 // verify: fails on false, and gives a new unit.
-fn verify_jet(cells: &mut [u8], used: u16, x: u16) -> Result<u16, JetEnd>
+fn verify_jet(cells: &mut [u8], used: u16, x: u16) -> Result<Kept, JetEnd>
     ensures { Delivers cells.old used (on_word (shape_at cells.old) 0 x verify) result cells.new }
 {
     let n = word_at(cells, x, argument_size(0)).ok_or(JetEnd::Stuck)?;
     if n == 1 {
-        keep(cells, used, UNIT, 0, 0).ok_or(JetEnd::Full)
+        Ok(keep(cells, from(used), UNIT, 0, 0))
     } else {
         Err(JetEnd::Failed)
     }
 }
 
 // eq_8: whether two words are equal.
-fn eq_8(cells: &mut [u8], used: u16, x: u16) -> Result<u16, JetEnd>
+fn eq_8(cells: &mut [u8], used: u16, x: u16) -> Result<Kept, JetEnd>
     ensures { Delivers cells.old used (on_words (shape_at cells.old) 3 x eq8) result cells.new }
 {
     let (a, b) = words_at(cells, x, argument_size(1)).ok_or(JetEnd::Stuck)?;
-    keep_bit(cells, used, a == b).ok_or(JetEnd::Full)
+    Ok(keep_bit(cells, from(used), a == b))
 }
 
 // The cells of a carry and a sum.
-fn keep_sum(cells: &mut [u8], used: u16, carry: bool, sum: u8, k: usize) -> Option<u16>
+fn keep_sum(cells: &mut [u8], p: Kept, carry: bool, sum: u8, k: usize) -> Kept
     requires { k ≤ 3 }
-    ensures { Keeps cells.old used (λ n. store_value n (pair (bit carry) (word k sum))) result cells.new }
+    ensures { Keeps cells.old p (λ n. store_value n (pair (bit carry) (word k sum))) result cells.new }
 {
-    let high = keep_bit(cells, used, carry)?;
-    let low = keep_word(cells, high + 1, k, sum)?;
-    keep(cells, low + 1, PAIR, high, low)
+    let high = keep_bit(cells, p, carry);
+    let low = keep_word(cells, high, k, sum);
+    keep(cells, low, PAIR, high.cell, low.cell)
 }
 
 // add_8: the carry beside the sum, which is less than either part where it wrapped around.
-fn add_8(cells: &mut [u8], used: u16, x: u16) -> Result<u16, JetEnd>
+fn add_8(cells: &mut [u8], used: u16, x: u16) -> Result<Kept, JetEnd>
     ensures { Delivers cells.old used (on_words (shape_at cells.old) 3 x add8) result cells.new }
 {
     let k = argument_size(2);
     let (a, b) = words_at(cells, x, k).ok_or(JetEnd::Stuck)?;
     let sum = a.wrapping_add(b);
-    keep_sum(cells, used, sum < a, sum, k).ok_or(JetEnd::Full)
+    Ok(keep_sum(cells, from(used), sum < a, sum, k))
 }
 
-// What jet j makes of cell x: the last of the cells that it stored.
-pub fn run_jet(cells: &mut [u8], used: u16, j: u16, x: u16) -> Result<u16, JetEnd>
+// What jet j makes of cell x.
+pub fn run_jet(cells: &mut [u8], used: u16, j: u16, x: u16) -> Result<Kept, JetEnd>
     ensures { Delivers cells.old used (jet_on (shape_at cells.old) j x) result cells.new }
 {
     match j {

@@ -3,7 +3,7 @@ ghost use Rattle.std.specs.Prelude.{◌≡◌, ◌<◌, slice_index};
 ghost use Rattle.book.specs.Format.{word_at};
 ghost use Rattle.cells.specs.Entries.{kind_at, left_at, right_at};
 ghost use Rattle.cells.specs.Cells.{store};
-ghost use Rattle.cells.specs.Keeping.{Keeps};
+ghost use Rattle.cells.specs.Keeping.{Fresh, Keeps};
 
 use book::word::word;
 use named::entry::write_entry;
@@ -16,6 +16,15 @@ pub const LEFT: u8 = 2;
 pub const RIGHT: u8 = 3;
 
 pub const PAIR: u8 = 4;
+
+// The cell that was stored last, how many there are, and whether one did not fit. Once full nothing is stored, so that a jet need not
+// ask after each of its cells.
+#[derive(Clone, Copy)]
+pub struct Kept {
+    pub cell: u16,
+    pub used: u16,
+    pub full: bool,
+}
 
 // The byte at i, or 0 past the end.
 fn byte(t: &[u8], i: usize) -> u8
@@ -54,13 +63,30 @@ pub fn right_at(t: &[u8], n: u16) -> u16
     pair_at(t, 5 * (n as usize) + 3)
 }
 
-// With `used` cells in the table, stores one more, if there is room for it: it gets the number `used`.
-pub fn keep(cells: &mut [u8], used: u16, kind: u8, a: u16, b: u16) -> Option<u16>
-    ensures { Keeps cells.old used (λ n. store n kind a b) result cells.new }
+// With so many cells used, the next one is to be stored.
+pub fn from(used: u16) -> Kept
+    ensures { Fresh used result }
 {
-    if write_entry(cells, used, kind, a, b) {
-        Some(used)
+    Kept {
+        cell: 0,
+        used,
+        full: false,
+    }
+}
+
+// Stores a cell, if there is room for it.
+pub fn keep(cells: &mut [u8], p: Kept, kind: u8, a: u16, b: u16) -> Kept
+    ensures { Keeps cells.old p (λ n. store n kind a b) result cells.new }
+{
+    if p.full {
+        p
+    } else if write_entry(cells, p.used, kind, a, b) {
+        Kept {
+            cell: p.used,
+            used: p.used + 1,
+            full: false,
+        }
     } else {
-        None
+        Kept { full: true, ..p }
     }
 }

@@ -1,6 +1,6 @@
 -- A value comes back to a frame: a law for each code, and the machine's leaves: witnesses and jets.
 -- Assumes nothing.
-use mathlib.Core.Path.{◌≡◌, refl, sym, ◌∙◌}
+use mathlib.Core.Path.{◌≡◌, refl, sym, ap, ◌∙◌}
 use mathlib.Core.List.{List}
 use mathlib.Core.Bool.{Bool, true, false}
 use Prim.Native.Nat.{ℕ, ◌+◌, ◌*◌, ◌-◌, ◌≤◌, ◌<◌}
@@ -11,6 +11,7 @@ use Rattle.simplicity.specs.Outcomes.{Outcome}
 use Rattle.book.specs.Format.{word_at}
 use Rattle.book.specs.declared.fault.Fault.TheVariants.{Witness}
 use Rattle.machine.specs.declared.State.{State}
+use Rattle.cells.specs.declared.table.Kept.{Kept}
 use Rattle.cells.specs.declared.jets.JetEnd.{JetEnd}
 use Rattle.cells.specs.declared.jets.JetEnd.TheVariants as jets
 use Rattle.std.specs.Prelude.{Result, Ok, Err}
@@ -20,21 +21,20 @@ use Rattle.machine.specs.declared.Frame.{Frame}
 use Rattle.machine.specs.declared.Frame.TheVariants.{Skip, Second, Beside, Lefted, Righted, Paired}
 use Rattle.cells.specs.Entries.{left_at, right_at}
 use Rattle.nodes.specs.Given.{Given, typed, supplies}
-use Rattle.cells.specs.Cells.{World, refuses, got, halt, deliver}
-use Rattle.cells.specs.Keeping.{leads, jetted, Delivers}
+use Rattle.cells.specs.Cells.{World, refuses, Out, got, halt, deliver}
+use Rattle.cells.specs.Keeping.{jetted, Delivers}
 use Rattle.machine.specs.Run.{DEEP, witnessed}
-use Rattle.machine.specs.Machine.{end_of, ended_by, going_on, outcome, turns, Turned, Downed, Handed, Answers, Sound}
+use Rattle.machine.specs.Machine.{resume, end_of, ended_by, going_on, outcome, turns, Turned, Downed, Handed, Answers, Backs, Sound}
 use Rattle.machine.proofs.Turns.{back_down, back_hand, handed_as}
 use Rattle.machine.proofs.Ways.{frame_skip, frame_second, frame_beside, frame_lefted, frame_righted, frame_paired, weight_second, weight_beside}
 use Rattle.cells.specs.Cells.{store}
 
 -- a jet that gave no cells ends the run
 jet_halts : (n : ℕ) (t hs : List ℕ) (x : JetEnd) → jetted n t hs (Err x) ≡ halt 0 (end_of (ended_by x)) n
-unfolding jetted leads
+unfolding jetted
 jet_halts n t hs jets.Failed = refl
 jet_halts n t hs jets.Stuck = refl
 jet_halts n t hs jets.Unknown = refl
-jet_halts n t hs jets.Full = refl
 
 below : (d : ℕ) → (d ≡ 0 → ⊥) → d ≡ d - 1 + 1
 below d h = omega arith
@@ -94,11 +94,12 @@ module _ (g : Given) (n x : ℕ) (w : World) (q : x ≡ left_at g.nodes n) where
     witness_refused b e = let z : typed g.book r t ≡ false = sym b ∙ e in rw (← q, ← i, ← j, lt-ltb (2 * x + 1) (length g.witnesses) a, z)
 
 -- JETS
-module _ {c c' : List ℕ} {u : ℕ} {o : Outcome} {j : Result ℕ JetEnd} {s : State} {r : Result State Halt} (d : Delivers c u o j c') where
-  pub jet_made : {v : ℕ} → j ≡ Ok v → s.used ≡ v + 1 → Answers s (got 0 v) r → Handed c u s.depth (deliver s.node o) c' r
-  unfolding jetted leads
-  jet_made {v} e z a = handed_as {t₁ = c'} {u₁ = s.used} {m' = got 0 v} (λ hs. sym (d.same s.node hs) ∙ rw (e, z)) (a.handed c')
+module _ {c c' : List ℕ} {u : ℕ} {o : Outcome} {j : Result Kept JetEnd} {s : State} {r : Result State Halt} (d : Delivers c u o j c') where
+  pub jet_made : {p : Kept} → j ≡ Ok p → Backs s p r → Handed c u s.depth (deliver s.node o) c' r
+  unfolding jetted
+  jet_made {p} e b =
+      record { same = λ g k fs hs. ap (λ (x : Out). resume g k fs x) (sym (rw e at (d.same s.node hs))) ∙ b.same g k fs c' hs; depth = b.depth; less = b.less }
 
-  pub jet_ended : {x : JetEnd} → j ≡ Err x → Answers s (λ w. halt 0 (end_of (ended_by x)) s.node) r → Handed c u s.depth (deliver s.node o) c' r
-  jet_ended {x} e a =
-      handed_as {t₁ = c'} {u₁ = s.used} {m' = λ w. halt 0 (end_of (ended_by x)) s.node} (λ hs. sym (rw e at (d.same s.node hs)) ∙ jet_halts s.node c' hs x) (a.handed c')
+  pub jet_ended : {x : JetEnd} → j ≡ Err x → Answers s (λ w. halt 0 (end_of (ended_by x)) s.node) r → u ≡ s.used → Handed c u s.depth (deliver s.node o) c' r
+  jet_ended {x} e a z =
+      handed_as {t₁ = c'} {m' = λ w. halt 0 (end_of (ended_by x)) s.node} (λ hs. sym (rw e at (d.same s.node hs)) ∙ jet_halts s.node c' hs x) (rw z (a.handed c'))

@@ -2,11 +2,12 @@
 -- Assumes nothing.
 use mathlib.Core.Path.{◌≡◌, refl, sym, ap, ◌∙◌}
 use mathlib.Core.List.{List, []}
+use mathlib.Core.Bool.{true, false}
 use Prim.Native.Nat.{ℕ, suc, ◌+◌, ◌*◌, ◌-◌, ◌≤◌, ◌<◌}
 use native.Mathlib.Omega.{arith}
 use native.Mathlib.Numerals.{add-one}
 use lib.ListN.{length, get_or, set}
-use Rattle.std.specs.Prelude.{Option, Some, None, Result, Ok, Err, IfOk}
+use Rattle.std.specs.Prelude.{Result, Ok, Err, IfOk}
 use Rattle.book.specs.declared.fault.Fault.TheVariants as faults
 use Rattle.machine.specs.declared.State.{State}
 use Rattle.machine.specs.declared.Step.TheVariants.{Enter, Back}
@@ -15,11 +16,12 @@ use Rattle.machine.specs.declared.Ended.{Ended}
 use Rattle.machine.specs.declared.Ended.TheVariants.{Refused}
 use Rattle.machine.specs.declared.Frame.{Frame}
 use Rattle.machine.specs.declared.Frame.TheVariants.{Skip, Second, Beside, Lefted, Righted, Paired}
+use Rattle.cells.specs.declared.table.Kept.{Kept}
 use Rattle.nodes.specs.Given.{Given}
 use Rattle.cells.specs.Cells.{World, world, Out, got, halt, add, bind, store}
-use Rattle.cells.specs.Keeping.{leads, Keeps}
+use Rattle.cells.specs.Keeping.{leads, Fresh, Keeps}
 use Rattle.machine.specs.Run.{DEEP, Runs, hand_on, by_kind, run}
-use Rattle.machine.specs.Machine.{holding, apply, resume, frames, waiting, end_of, going_on, future, coming, outcome, weight, weights, turns, Turned, Downed, Handed, Answers, Entered, Stopped}
+use Rattle.machine.specs.Machine.{holding, apply, resume, frames, waiting, end_of, going_on, future, coming, outcome, weight, weights, turns, Turned, Downed, Handed, Answers, Backs, Entered, Stopped}
 use Rattle.cells.proofs.Outs.{add_none, add_add, bind_got}
 use Rattle.machine.proofs.Frames.{resume_add, resume_halt, frames_put, waiting_put}
 
@@ -92,22 +94,34 @@ answers_as {s} {m} {m'} {r} e a =
           };
     }
 
-pub handed_as : {t t₁ : List ℕ} {u u₁ d : ℕ} {m m' : World → Out} {t' : List ℕ} {r : Result State Halt}
-    → ((hs : List ℕ) → m (world u t hs) ≡ m' (world u₁ t₁ hs)) → Handed t₁ u₁ d m' t' r → Handed t u d m t' r
+pub handed_as : {t t₁ : List ℕ} {u d : ℕ} {m m' : World → Out} {t' : List ℕ} {r : Result State Halt}
+    → ((hs : List ℕ) → m (world u t hs) ≡ m' (world u t₁ hs)) → Handed t₁ u d m' t' r → Handed t u d m t' r
 handed_as e h =
     record { same = λ g k fs hs. ap (λ (o : Out). resume g k fs o) (e hs) ∙ h.same g k fs hs; depth = h.depth; less = h.less }
 
--- what m came to for the state's node is handed back, or did not fit
-module _ {t t' : List ℕ} {u : ℕ} {m : ℕ → World → Out} {q : Option ℕ} (k : Keeps t u m q t') where
-  pub handed_kept : {v : ℕ} {s : State} {r : Result State Halt} → q ≡ Some v → s.used ≡ v + 1 → Answers s (got 0 v) r → Handed t u s.depth (m s.node) t' r
-  unfolding leads
-  handed_kept {v} {s} e z a =
-      handed_as {t₁ = t'} {u₁ = s.used} {m' = got 0 v} (λ hs. sym (k.same s.node hs) ∙ rw (e, z)) (a.handed t')
+-- what was kept
+pub backs_kept : (s : State) (p : Kept) → p.full ≡ false → Backs s p (Ok (record { depth = s.depth; node = 0; value = p.cell; used = p.used; step = Back }))
+unfolding leads outcome going_on turns
+backs_kept s p e = record { same = λ g k fs t hs. rw e; depth = refl; less = λ fs. omega arith }
 
-  pub handed_full : {s : State} {r : Result State Halt} → q ≡ None → Answers s (λ w. halt 0 (end_of (Refused faults.Cells)) s.node) r → Handed t u s.depth (m s.node) t' r
-  unfolding leads
-  handed_full {s} e a =
-      handed_as {t₁ = t'} {u₁ = s.used} {m' = λ w. halt 0 (end_of (Refused faults.Cells)) s.node} (λ hs. sym (k.same s.node hs) ∙ rw e) (a.handed t')
+pub backs_full : (s : State) (p : Kept) (r : Result State Halt) → p.full ≡ true → Answers s (λ w. halt 0 (end_of (Refused faults.Cells)) s.node) r → Backs s p r
+unfolding leads
+backs_full s p r e a =
+    record { same = λ g k fs t hs. rw e ((a.handed t).same g k fs hs); depth = (a.handed []).depth; less = (a.handed []).less }
+
+leads_fresh : (u : ℕ) (p : Kept) → Fresh u p → (n : ℕ) (t hs : List ℕ) (f : ℕ → World → Out) → bind (leads n t hs p) (λ v. f n) ≡ f n (world u t hs)
+unfolding leads
+leads_fresh u p h n t hs f = rw (h.room, h.used) (bind_got p.cell (world u t hs) (λ v. f n))
+
+pub handed_kept : {t t' : List ℕ} {u : ℕ} {p q : Kept} {m : ℕ → World → Out} {s : State} {r : Result State Halt}
+    → Fresh u p → Keeps t p m q t' → Backs s q r → Handed t u s.depth (m s.node) t' r
+handed_kept {t} {t'} {u} {p} {q} {m} {s} {r} f k b =
+    record {
+      same = λ g j fs hs.
+          ap (λ (o : Out). resume g j fs o) (sym (leads_fresh u p f s.node t hs m) ∙ sym (k.same s.node hs)) ∙ b.same g j fs t' hs;
+      depth = b.depth;
+      less = b.less;
+    }
 
 -- A NODE IS ENTERED: its kind says what is to be done, one node on
 enter_future : (g : Given) (c : List ℕ) (f : List Frame) (s : State) → s.step ≡ Enter → s.depth < DEEP
@@ -183,24 +197,27 @@ module _ {g : Given} {c : List ℕ} {f : List Frame} {s : State} (z : s.step ≡
       }
 
 -- A PAIR IS HANDED ON to a child, or doesn't fit
-module _ {c c' : List ℕ} (s : State) {q : Option ℕ} (a e : ℕ) (k : Keeps c s.used (λ n. store n 4 a e) q c') where
-  full_halts : q ≡ None → (hs : List ℕ) (kid : ℕ → World → Out) → hand_on s.node a e kid (world s.used c hs) ≡ halt 0 (end_of (Refused faults.Cells)) s.node
+module _ {c c' : List ℕ} (s : State) {p q : Kept} (a e : ℕ) (fr : Fresh s.used p) (kp : Keeps c p (λ n. store n 4 a e) q c') where
+  stored : (hs : List ℕ) → store s.node 4 a e (world s.used c hs) ≡ leads s.node c' hs q
+  stored hs = sym (leads_fresh s.used p fr s.node c hs (λ n. store n 4 a e)) ∙ sym (kp.same s.node hs)
+
+  full_halts : q.full ≡ true → (hs : List ℕ) (kid : ℕ → World → Out) → hand_on s.node a e kid (world s.used c hs) ≡ halt 0 (end_of (Refused faults.Cells)) s.node
   unfolding bind leads
-  full_halts z hs kid = let q : store s.node 4 a e (world s.used c hs) ≡ halt 0 (end_of (Refused faults.Cells)) s.node = sym (k.same s.node hs) ∙ rw z in rw q
+  full_halts z hs kid = let q : store s.node 4 a e (world s.used c hs) ≡ halt 0 (end_of (Refused faults.Cells)) s.node = stored hs ∙ rw z in rw q
 
-  kept_goes : {v : ℕ} → q ≡ Some v → (hs : List ℕ) (kid : ℕ → World → Out) → hand_on s.node a e kid (world s.used c hs) ≡ kid v (world (v + 1) c' hs)
+  kept_goes : q.full ≡ false → (hs : List ℕ) (kid : ℕ → World → Out) → hand_on s.node a e kid (world s.used c hs) ≡ kid q.cell (world q.used c' hs)
   unfolding leads
-  kept_goes {v} z hs kid = let o : store s.node 4 a e (world s.used c hs) ≡ got 0 v (world (v + 1) c' hs) = sym (k.same s.node hs) ∙ rw z in rw o (bind_got v _ kid)
+  kept_goes z hs kid = let o : store s.node 4 a e (world s.used c hs) ≡ got 0 q.cell (world q.used c' hs) = stored hs ∙ rw z in rw o (bind_got q.cell _ kid)
 
-  pub entered_full : {f : List Frame} (m : ℕ) {r : Result State Halt} → s.depth < DEEP → q ≡ None → Answers s (λ w. halt 0 (end_of (Refused faults.Cells)) s.node) r
+  pub entered_full : {f : List Frame} (m : ℕ) {r : Result State Halt} → s.depth < DEEP → q.full ≡ true → Answers s (λ w. halt 0 (end_of (Refused faults.Cells)) s.node) r
       → Entered c f s (λ kids. hand_on s.node a e (kids m)) c' f r
   entered_full m l z an =
       entered_hand {m' = λ w. halt 0 (end_of (Refused faults.Cells)) s.node} (omega arith) (λ kids. full_halts z _ (kids m)) (handed_as (λ hs. refl) (an.handed c'))
 
-  pub entered_kept : {f : List Frame} (m : ℕ) {v : ℕ} {f' : List Frame} {r : State} → q ≡ Some v → Downed f s.depth Skip m v (v + 1) f' r
+  pub entered_kept : {f : List Frame} (m : ℕ) {f' : List Frame} {r : State} → q.full ≡ false → Downed f s.depth Skip m q.cell q.used f' r
       → Entered c f s (λ kids. hand_on s.node a e (kids m)) c' f' (Ok r)
   unfolding apply
-  entered_kept m {v} z dn = entered_down Skip m v (λ g kids. kept_goes z _ (kids m)) dn
+  entered_kept m z dn = entered_down Skip m q.cell (λ g kids. kept_goes z _ (kids m)) dn
 
 -- a node that would be entered too deep
 pub turned_steep : {g : Given} {c : List ℕ} {f : List Frame} {s : State} {r : Result State Halt} → s.step ≡ Enter → s.depth ≡ DEEP

@@ -6,6 +6,8 @@ use Rattle.book.specs.Text.{Text}
 use Rattle.nodes.specs.Given.{Given, cell_of}
 use Rattle.cells.specs.Cells.{left_cell, right_cell, pair_cell, World, world, newest, let_go, keeping, End, fails, refuses, Out, got, halt, add, bind, store}
 use Rattle.machine.specs.Run.{DEEP, Runs, right_of, run}
+use Rattle.cells.specs.Keeping.{leads}
+use Rattle.cells.specs.declared.table.Kept.{Kept}
 use Rattle.cells.specs.declared.jets.JetEnd.{JetEnd}
 use Rattle.cells.specs.declared.jets.JetEnd.TheVariants as jets
 use Rattle.book.specs.declared.fault.Fault.TheVariants as faults
@@ -70,7 +72,6 @@ abbrev pub ended_by : JetEnd → Ended
 ended_by jets.Failed = Failed
 ended_by jets.Stuck = Refused faults.Stuck
 ended_by jets.Unknown = Refused faults.Jet
-ended_by jets.Full = Refused faults.Cells
 
 -- what a step leads to: a node is entered on a cell, or a cell handed back
 unfoldable pub going_on : Step → Given → ℕ → List Frame → ℕ → ℕ → World → Out
@@ -137,6 +138,12 @@ pub record Handed (t : List ℕ) (u d : ℕ) (m : World → Out) (t' : List ℕ)
 -- the same without a cell stored, whatever the table
 pub record Answers (s : State) (m : World → Out) (r : Result State Halt) : Type 0 where
   pub handed : (t : List ℕ) → Handed t s.used s.depth m t r
+
+-- what was kept for the state's node is handed back, or ended the run
+pub record Backs (s : State) (p : Kept) (r : Result State Halt) : Type 0 where
+  pub same : (g : Given) (k : ℕ) (fs : List Frame) (t hs : List ℕ) → resume g k fs (leads s.node t hs p) ≡ outcome g k fs t hs r
+  pub depth : IfOk r (λ s'. s'.depth ≡ s.depth)
+  pub less : (fs : List Frame) → IfOk r (λ s'. turns s'.step fs ≤ 1 + weights fs)
 
 -- at the state's node m was done, whose children run as they do one below
 pub record Entered (c : List ℕ) (f : List Frame) (s : State) (m : Runs → World → Out) (c' : List ℕ) (f' : List Frame) (r : Result State Halt) : Type 0 where

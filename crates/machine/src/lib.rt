@@ -5,17 +5,17 @@
 ghost use Rattle.std.specs.Prelude.{◌≡◌, List, ℕ, ◌+◌, ◌≤◌, ◌<◌, length};
 ghost use Rattle.simplicity.specs.Jets.{jet_on};
 ghost use Rattle.cells.specs.Entries.{kind_at};
-ghost use Rattle.cells.specs.Cells.{shape_at, got, halt, store, deliver};
+ghost use Rattle.cells.specs.Cells.{shape_at, got, halt, deliver};
 ghost use Rattle.book.specs.Text.{Text, text};
 ghost use Rattle.nodes.specs.Given.{given};
 ghost use Rattle.machine.specs.Run.{DEEP, hand_on, witnessed};
-ghost use Rattle.machine.specs.Machine.{Answers, Branches, Downed, Entered, Handed, Sound, Stopped, Turned, end_of, ended_by, future};
+ghost use Rattle.machine.specs.Machine.{Answers, Backs, Branches, Downed, Entered, Handed, Sound, Stopped, Turned, end_of, ended_by, future};
 
 use book::fault::Fault;
 use book::record::Book;
 use book::word::word;
 use cells::jets::{JetEnd, run_jet};
-use cells::table::{LEFT, PAIR, RIGHT, keep, kind_at, left_at, right_at};
+use cells::table::{Kept, LEFT, PAIR, RIGHT, from, keep, kind_at, left_at, right_at};
 use nodes::given::{entry, is_typed};
 
 // How deep a node may be entered.
@@ -82,7 +82,6 @@ impl From<JetEnd> for Ended {
             JetEnd::Failed => Ended::Failed,
             JetEnd::Stuck => Ended::Refused(Fault::Stuck),
             JetEnd::Unknown => Ended::Refused(Fault::Jet),
-            JetEnd::Full => Ended::Refused(Fault::Cells),
         }
     }
 }
@@ -110,15 +109,20 @@ impl State {
         }
     }
 
-    // Stores a cell for the state's node and hands it back, if there is room for it.
-    fn store(self, cells: &mut [u8], kind: u8, a: u16, b: u16) -> Result<State, Halt>
-        ensures { Handed cells.old self.used self.depth (store self.node kind a b) cells.new result }
+    // The last cell that was kept is handed back, or one did not fit.
+    fn back_kept(self, p: Kept) -> Result<State, Halt>
+        ensures { Backs self p result }
     {
-        let Some(cell) = keep(cells, self.used, kind, a, b) else {
+        if p.full {
             return Err(self.halt(Ended::Refused(Fault::Cells)));
-        };
-        let used = cell + 1;
-        Ok(State { used, ..self }.back(cell))
+        }
+        Ok(State {
+            step: Step::Back,
+            node: 0,
+            value: p.cell,
+            used: p.used,
+            ..self
+        })
     }
 }
 
@@ -176,11 +180,12 @@ fn hand_on(
     requires deep { length frames.old ≡ DEEP }
     ensures { Entered cells.old frames.old s (λ kids. hand_on s.node a e (kids m)) cells.new frames.new result }
 {
-    let Some(cell) = keep(cells, s.used, PAIR, a, e) else {
+    let p = keep(cells, from(s.used), PAIR, a, e);
+    if p.full {
         return Err(s.halt(Ended::Refused(Fault::Cells)));
-    };
-    let used = cell + 1;
-    Ok(down(frames, State { used, ..s }, Frame::Skip, m, cell))
+    }
+    let t = State { used: p.used, ..s };
+    Ok(down(frames, t, Frame::Skip, m, p.cell))
 }
 
 // A case, or an assert, which fails on its hidden side.
@@ -239,10 +244,7 @@ fn enter_jet(cells: &mut [u8], s: State, j: u16) -> Result<State, Halt>
     ensures { Handed cells.old s.used s.depth (deliver s.node (jet_on (shape_at cells.old) j s.value)) cells.new result }
 {
     match run_jet(cells, s.used, j, s.value) {
-        Ok(cell) => {
-            let used = cell + 1;
-            Ok(State { used, ..s }.back(cell))
-        }
+        Ok(p) => s.back_kept(p),
         Err(end) => Err(s.halt(Ended::from(end))),
     }
 }
@@ -310,9 +312,15 @@ fn back_to(nodes: &[u8], cells: &mut [u8], frames: &mut [Frame], s: State) -> Re
             let frame = Frame::Paired { node, held: v };
             Ok(down(frames, t, frame, right_at(nodes, node), held))
         }
-        Frame::Lefted { node } => State { node, ..t }.store(cells, LEFT, v, 0),
-        Frame::Righted { node } => State { node, ..t }.store(cells, RIGHT, v, 0),
-        Frame::Paired { node, held } => State { node, ..t }.store(cells, PAIR, held, v),
+        Frame::Lefted { node } => {
+            State { node, ..t }.back_kept(keep(cells, from(t.used), LEFT, v, 0))
+        }
+        Frame::Righted { node } => {
+            State { node, ..t }.back_kept(keep(cells, from(t.used), RIGHT, v, 0))
+        }
+        Frame::Paired { node, held } => {
+            State { node, ..t }.back_kept(keep(cells, from(t.used), PAIR, held, v))
+        }
     }
 }
 

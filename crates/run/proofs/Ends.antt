@@ -20,12 +20,14 @@ use Rattle.book.specs.declared.fault.Refusal.{Refusal}
 use Rattle.book.proofs.Established.{answer_valid}
 use Rattle.named.proofs.Images.{zeros}
 use Rattle.machine.specs.declared.State.{State}
+use Rattle.cells.specs.declared.table.Kept.{Kept}
 use Rattle.run.specs.Whole.{RunAnswer}
 use Rattle.run.specs.declared.Outcome.TheVariants as outcomes
 use Rattle.book.specs.Text.{Text, text}
 use Rattle.nodes.specs.Given.{Given, given}
 use Rattle.nodes.specs.Nodes.{Judged, judge}
 use Rattle.cells.specs.Cells.{world, fails, refuses, Out, got, halt, add, bind}
+use Rattle.cells.specs.Keeping.{leads}
 use Rattle.machine.specs.Run.{DEEP, run}
 use Rattle.run.specs.Whole.{seeds, ended, result_of, after_read, resulting, answer_of, cells_of, run_of, table_of}
 use Rattle.machine.specs.declared.Step.TheVariants.{Enter}
@@ -33,8 +35,8 @@ use Rattle.machine.specs.declared.Halt.{Halt}
 use Rattle.machine.specs.declared.Ended.TheVariants.{Failed, Refused}
 use Rattle.machine.specs.declared.Frame.{Frame}
 use Rattle.machine.specs.Machine.{frames, waiting, resume, over_at, going_on, future, Stopped}
-use Rattle.std.specs.Prelude.{Option, Some, None, Result, Ok, Err}
-use Rattle.run.specs.Calls.{filled, Started, Answered}
+use Rattle.std.specs.Prelude.{Result, Ok, Err}
+use Rattle.run.specs.Calls.{Started, Answered}
 use Rattle.cells.proofs.Outs.{bind_got}
 
 -- nodes entered before change no result
@@ -63,22 +65,22 @@ unfolding future going_on frames waiting resume
 machine_starts g n u t f p = record { t = p.t; same = p.same }
 
 -- THE RUN, after the initial cells
-module _ (g : Given) (c : ℕ) {t t₁ : List ℕ} {p : Option ℕ} (z : t ≡ zeros (length t)) (s : Started g.book g.book.records t p t₁) where
-  ended_filled : ended g c (length t) ≡ bind (filled t₁ [] p) (λ v. run DEEP g (c - 1) 0)
+module _ (g : Given) (c : ℕ) {t t₁ : List ℕ} {p : Kept} (z : t ≡ zeros (length t)) (s : Started g.book g.book.records t p t₁) where
+  ended_leads : ended g c (length t) ≡ bind (leads 0 t₁ [] p) (λ v. run DEEP g (c - 1) 0)
   unfolding ended
-  ended_filled = ap (λ (o : Out). bind o (λ v. run DEEP g (c - 1) 0)) (ap (λ (x : List ℕ). seeds g.book g.book.records (world 0 x [])) (sym z) ∙ sym (s.same []))
+  ended_leads = ap (λ (o : Out). bind o (λ v. run DEEP g (c - 1) 0)) (ap (λ (x : List ℕ). seeds g.book g.book.records (world 0 x [])) (sym z) ∙ sym (s.same []))
 
-  pub table_full : {t₂ : List ℕ} → p ≡ None → length t₁ ≡ length t → t₂ ≡ zeros (length t₁)
+  pub table_full : {t₂ : List ℕ} → p.full ≡ true → length t₁ ≡ length t → t₂ ≡ zeros (length t₁)
       → Answered (result_of (ended g c (length t))) (length t) (Err (refusal faults.Cells 0)) t₂
-  unfolding filled bind
-  table_full e l y = let q : ended g c (length t) ≡ halt 0 (refuses faults.Cells) 0 = ended_filled ∙ rw e in record { answer = rw q; table = rw q (rw l at y) }
+  unfolding leads bind
+  table_full e l y = let q : ended g c (length t) ≡ halt 0 (refuses faults.Cells) 0 = ended_leads ∙ rw e in record { answer = rw q; table = rw q (rw l at y) }
 
-  pub table_ran : {u m : ℕ} {t₂ : List ℕ} {r : Result State Halt} {a : RunAnswer} {t₃ : List ℕ} → p ≡ Some u → Stopped (run DEEP g (c - 1) 0 (world u t₁ [])) t₂ r
+  pub table_ran : {m : ℕ} {t₂ : List ℕ} {r : Result State Halt} {a : RunAnswer} {t₃ : List ℕ} → p.full ≡ false → Stopped (run DEEP g (c - 1) 0 (world p.used t₁ [])) t₂ r
       → m ≡ length t → Answered (result_of (over_at t₂ r)) m a t₃
       → Answered (result_of (ended g c (length t))) (length t) a t₃
-  unfolding filled
-  table_ran {u} {t₂ = t₂} {r = r} e st l an =
-      let q : ended g c (length t) ≡ add st.t (over_at t₂ r) = ended_filled ∙ rw e (bind_got (u - 1) (world u t₁ []) (λ v. run DEEP g (c - 1) 0) ∙ st.same) in
+  unfolding leads
+  table_ran {t₂ = t₂} {r = r} e st l an =
+      let q : ended g c (length t) ≡ add st.t (over_at t₂ r) = ended_leads ∙ rw e (bind_got p.cell (world p.used t₁ []) (λ v. run DEEP g (c - 1) 0) ∙ st.same) in
       record { answer = an.answer ∙ ap answer_of (sym (ap result_of q ∙ result_add st.t _)); table = rw l at an.table ∙ ap (cells_of (length t)) (sym (ap result_of q ∙ result_add st.t _)) }
 
 -- AFTER READ: the check

@@ -1,6 +1,6 @@
 -- Laws of the cells before the run: how values are numbered, and how their cells are stored one after another.
 -- Assumes nothing.
-use Prim.Native.Nat.{ℕ, zero, suc, ◌+◌, ◌-◌, ◌≤◌, ◌<◌}
+use Prim.Native.Nat.{ℕ, zero, suc, ◌+◌, ◌≤◌, ◌<◌}
 use mathlib.Core.Bool.{Bool, true, false}
 use mathlib.Core.List.{List, [], ◌∷◌}
 use mathlib.Core.Path.{◌≡◌, refl, sym, ap, subst, ◌∙◌}
@@ -18,15 +18,15 @@ use Rattle.book.specs.Stands.{Stands}
 use Rattle.book.proofs.Standing.{stands_mark}
 use Rattle.book.proofs.Course.{zeros}
 use Rattle.book.proofs.Judging.{up_to}
-use Rattle.cells.specs.Cells.{unit_cell, left_cell, right_cell, pair_cell, World, world, Out, got, bind, store}
+use Rattle.cells.specs.Cells.{unit_cell, left_cell, right_cell, pair_cell, World, Out, got, halt, add, bind, store}
 use Rattle.book.specs.Text.{Text}
 use Rattle.nodes.specs.Given.{holds, values_below, cell_of}
-use Rattle.cells.specs.Keeping.{leads, Keeps}
+use Rattle.cells.specs.Keeping.{leads, Fresh, Keeps}
 use Rattle.run.specs.Whole.{part_of, seed, seed_one, seeds}
 use Rattle.machine.specs.Machine.{Placed}
-use Rattle.run.specs.Calls.{Seeded, filled, Filled, Started}
-use Rattle.std.specs.Prelude.{Option, Some, None}
-use Rattle.cells.proofs.Outs.{bind_got}
+use Rattle.run.specs.Calls.{Seeded, Started}
+use Rattle.cells.specs.declared.table.Kept.{Kept}
+use Rattle.cells.proofs.Outs.{add_none}
 use Rattle.nodes.proofs.Checks.{holds_inside}
 
 -- the first r records are numbered: the row has their cells and zeros beyond, and the next value's cell is this
@@ -133,60 +133,34 @@ module _ (b : Text) (r : ℕ) where
   unfolding seed
   seed_pair e p q = rw (e, p, q)
 
--- what was stored for any node was stored before the run
-pub seed_kept : {t t' : List ℕ} {u : ℕ} {q : Option ℕ} {m : ℕ → World → Out} {f : World → Out} → Keeps t u m q t' → m 0 ≡ f → Seeded t u f q t'
-seed_kept {t} {u = u} k e = record { same = λ hs. k.same 0 hs ∙ ap (λ (g : World → Out). g (world u t hs)) e; few = k.few }
+-- a value's cell that is handed on
+bind_same : (o : Out) → o ≡ bind o (λ v w. got 0 v w)
+unfolding bind add
+bind_same (got s v w) = let z : s + 0 ≡ s = omega arith in rw z
+bind_same (halt s e n) = refl
 
--- a record's cell, if it is a value
-module _ {t : List ℕ} {u : ℕ} (b : Text) (r : ℕ) (l : r < b.records) where
-  one_seed : {t' : List ℕ} {q : Option ℕ} → holds b VALUE r ≡ true → Filled t u (λ v. seed b r) q t' → Filled t u (seed_one b r) q t'
-  one_seed {t'} {q} e h =
-      let z : eqb (kind b.bytes b.index r) VALUE ≡ true = sym (holds_inside b VALUE r l) ∙ e in
-      subst (λ (x : Bool). Filled t u (λ v w. pick x (seed b r w) (got 0 v w)) q t') (sym z) h
+module _ {t t' : List ℕ} {p q : Kept} where
+  -- what was stored for any node was stored before the run
+  pub seed_kept : {m : ℕ → World → Out} {f : World → Out} → Keeps t p m q t' → m 0 ≡ f → Seeded t p (λ v. f) q t'
+  seed_kept k e = record { same = λ hs. k.same 0 hs ∙ ap (λ g. bind (leads 0 t hs p) (λ v. g)) e }
 
-  pub one_value : {t' : List ℕ} {q : Option ℕ} {v : ℕ} → holds b VALUE r ≡ true → q ≡ Some v → Seeded t u (seed b r) q t' → Filled t u (seed_one b r) (Some (v + 1)) t'
-  unfolding filled leads
-  one_value {v = v} e z s = let y : v + 1 - 1 ≡ v = omega arith in one_seed e (record { same = λ hs. rw y (rw z at (s.same hs)) })
+  -- a value's cell is its record's
+  pub one_value : (b : Text) (r : ℕ) → r < b.records → holds b VALUE r ≡ true → Seeded t p (λ v. seed b r) q t' → Seeded t p (seed_one b r) q t'
+  one_value b r h e s = let z : eqb (kind b.bytes b.index r) VALUE ≡ true = sym (holds_inside b VALUE r h) ∙ e in subst (λ (u : Bool). Seeded t p (λ v w. pick u (seed b r w) (got 0 v w)) q t') (sym z) s
 
-  pub one_full : {t' : List ℕ} {q : Option ℕ} → holds b VALUE r ≡ true → q ≡ None → Seeded t u (seed b r) q t' → Filled t u (seed_one b r) None t'
-  unfolding filled leads
-  one_full e z s = one_seed e (record { same = λ hs. rw z at (s.same hs) })
-
-  -- of another record nothing is stored
-  pub one_other : holds b VALUE r ≡ false → Filled t u (seed_one b r) (Some u) t
-  unfolding filled
-  one_other e =
-      let z : eqb (kind b.bytes b.index r) VALUE ≡ false = sym (holds_inside b VALUE r l) ∙ e in
-      subst (λ (x : Bool). Filled t u (λ v w. pick x (seed b r w) (got 0 v w)) (Some u) t) (sym z) (record { same = λ hs. refl })
+-- of another record nothing is stored
+pub one_other : {t : List ℕ} {p : Kept} (b : Text) (r : ℕ) → r < b.records → holds b VALUE r ≡ false → Seeded t p (seed_one b r) p t
+one_other {t} {p} b r h e = let z : eqb (kind b.bytes b.index r) VALUE ≡ false = sym (holds_inside b VALUE r h) ∙ e in record { same = λ hs. subst (λ (u : Bool). leads 0 t hs p ≡ bind (leads 0 t hs p) (λ v w. pick u (seed b r w) (got 0 v w))) (sym z) (bind_same (leads 0 t hs p)) }
 
 -- cell 0, then record by record, until all are stored
-module _ (b : Text) where
-  module _ {t t' : List ℕ} {q : Option ℕ} (k : Keeps t 0 (λ n. store n unit_cell 0 0) q t') where
-    pub start_unit : {v : ℕ} → q ≡ Some v → Started b 0 t (Some (v + 1)) t'
-    unfolding seeds leads filled
-    start_unit {v} e = let y : v + 1 - 1 ≡ v = omega arith in record { same = λ hs. rw y (rw e at (k.same 0 hs)) }
+module _ (b : Text) {t t' : List ℕ} {q : Kept} where
+  pub start_unit : {p : Kept} → Fresh 0 p → Keeps t p (λ n. store n unit_cell 0 0) q t' → Started b 0 t q t'
+  unfolding seeds leads bind
+  start_unit f k = record { same = λ hs. k.same 0 hs ∙ rw (f.room, f.used) (add_none _) }
 
-    -- or one does not fit, and then none of the records after it is looked at
-    pub start_full : q ≡ None → Started b 0 t None t'
-    unfolding seeds leads filled
-    start_full e = record { same = λ hs. rw e at (k.same 0 hs) }
+  pub start_one : (r : ℕ) {p : Kept} {s : List ℕ} → Started b r s p t → Seeded t p (seed_one b r) q t' → Started b (r + 1) s q t'
+  unfolding seeds
+  start_one r w h = record { same = λ hs. rw (add-one r) (h.same hs ∙ ap (λ o. bind o (seed_one b r)) (w.same hs)) }
 
-  pub start_one : {s t t' : List ℕ} (r : ℕ) {u : ℕ} {q : Option ℕ} → Started b r s (Some u) t → Filled t u (seed_one b r) q t' → Started b (r + 1) s q t'
-  unfolding seeds filled
-  start_one {s} {t} r {u} w h = record {
-    same = λ hs. rw (add-one r) (h.same hs ∙ sym (bind_got (u - 1) (world u t hs) (seed_one b r)) ∙ ap (λ (o : Out). bind o (seed_one b r)) (w.same hs));
-  }
-
-  pub start_all : {t t' : List ℕ} {q : Option ℕ} {r n : ℕ} → r ≡ n → Started b r t q t' → Started b n t q t'
-  start_all {t} {t'} {q} e w = subst (λ (k : ℕ). Started b k t q t') e w
-
-  -- where one does not fit among the first r of n records, none of those after them is looked at
-  start_more : {t t' : List ℕ} {r : ℕ} (n : ℕ) → Started b r t None t' → Started b (n + r) t None t'
-  unfolding seeds filled bind
-  start_more zero h = start_all (omega arith) h
-  start_more {t} {t'} {r} (suc n) h =
-      let x : Started b (suc (n + r)) t None t' = record { same = λ hs. ap (λ (o : Out). bind o (seed_one b (n + r))) ((start_more n h).same hs) } in
-      start_all (omega arith) x
-
-  pub start_stop : {t t' : List ℕ} {r n : ℕ} → r ≤ n → Started b r t None t' → Started b n t None t'
-  start_stop {r = r} {n = n} l w = start_all (omega arith) (start_more (n - r) w)
+  pub start_all : {r n : ℕ} → r ≡ n → Started b r t q t' → Started b n t q t'
+  start_all e w = subst (λ (k : ℕ). Started b k t q t') e w

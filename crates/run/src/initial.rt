@@ -7,11 +7,11 @@ ghost use Rattle.book.specs.Text.{text};
 ghost use Rattle.nodes.specs.Given.{holds};
 ghost use Rattle.run.specs.Whole.{seed, seed_one};
 ghost use Rattle.machine.specs.Machine.{Placed, Sound};
-ghost use Rattle.run.specs.Calls.{Filled, Seeded, Started};
+ghost use Rattle.run.specs.Calls.{Seeded, Started};
 
 use book::format::{VALUE, VL, VR, VU};
 use book::record::Book;
-use cells::table::{LEFT, PAIR, RIGHT, UNIT, keep};
+use cells::table::{Kept, LEFT, PAIR, RIGHT, UNIT, from, keep};
 use nodes::given::{entry, is_of};
 
 // The cell of each value record into a row of zeros: they are numbered from 1.
@@ -37,49 +37,41 @@ fn part(book: &Book, row: &[u16], r: u16, k: usize) -> u16
     entry(row, book.field_at(r, k))
 }
 
-// Stores the cell of value record r.
-fn seed_value(book: &Book, row: &[u16], r: u16, cells: &mut [u8], used: u16) -> Option<u16>
+// The cell of value record r.
+fn seed_value(book: &Book, row: &[u16], r: u16, cells: &mut [u8], p: Kept) -> Kept
     requires sound { Sound book.now row.now }
     requires holds_is { holds book.now VALUE r ≡ true }
-    ensures { Seeded cells.old used (seed book.now r) result cells.new }
+    ensures { Seeded cells.old p (λ v. seed book.now r) result cells.new }
 {
     match book.mark_at(r) {
-        VU => keep(cells, used, UNIT, 0, 0),
-        VL => keep(cells, used, LEFT, part(book, row, r, 1), 0),
-        VR => keep(cells, used, RIGHT, part(book, row, r, 1), 0),
-        _ => keep(
-            cells,
-            used,
-            PAIR,
-            part(book, row, r, 1),
-            part(book, row, r, 2),
-        ),
+        VU => keep(cells, p, UNIT, 0, 0),
+        VL => keep(cells, p, LEFT, part(book, row, r, 1), 0),
+        VR => keep(cells, p, RIGHT, part(book, row, r, 1), 0),
+        _ => keep(cells, p, PAIR, part(book, row, r, 1), part(book, row, r, 2)),
     }
 }
 
-// Stores the cell of record r, if it is a value. How many cells are used then.
-fn seed_one(book: &Book, row: &[u16], r: u16, cells: &mut [u8], used: u16) -> Option<u16>
+// The cell of record r, if it is a value.
+fn seed_one(book: &Book, row: &[u16], r: u16, cells: &mut [u8], p: Kept) -> Kept
     requires sound { Sound book.now row.now }
     requires r_in_range { r < book.now.records }
-    ensures { Filled cells.old used (seed_one book.now r) result cells.new }
+    ensures { Seeded cells.old p (seed_one book.now r) result cells.new }
 {
     if is_of(book, VALUE, r) {
-        let cell = seed_value(book, row, r, cells, used)?;
-        Some(cell + 1)
+        seed_value(book, row, r, cells, p)
     } else {
-        Some(used)
+        p
     }
 }
 
-// Stores cell 0 and the values' cells. How many cells are used then.
-pub fn seed_cells(book: &Book, row: &[u16], cells: &mut [u8]) -> Option<u16>
+// Cell 0 and the values' cells.
+pub fn seed_cells(book: &Book, row: &[u16], cells: &mut [u8]) -> Kept
     requires { Sound book.now row.now }
     ensures { Started book.now book.now.records cells.old result cells.new }
 {
-    let first = keep(cells, 0, UNIT, 0, 0)?;
-    let mut used = first + 1;
+    let mut p = keep(cells, from(0), UNIT, 0, 0);
     for r in 0..book.records() {
-        used = seed_one(book, row, r, cells, used)?;
+        p = seed_one(book, row, r, cells, p);
     }
-    Some(used)
+    p
 }

@@ -81,13 +81,14 @@ fn run_table(
 {
     let mut row = [0u16; 4096];
     number_values(book, &mut row);
-    let Some(used) = seed_cells(book, &row, cells) else {
+    let p = seed_cells(book, &row, cells);
+    if p.full {
         clear(cells);
         return Err(Refusal {
             fault: Fault::Cells,
             place: 0,
         });
-    };
+    }
     let end = run_machine(
         book,
         witnesses,
@@ -95,7 +96,7 @@ fn run_table(
         nodes,
         cells,
         (count - 1) as u16,
-        used,
+        p.used,
     );
     answer_of(cells, end)
 }

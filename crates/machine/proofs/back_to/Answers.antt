@@ -1,5 +1,6 @@
 -- `back_to` meets its contract: the newest frame says what is to be done.
 -- Assumes nothing.
+use Rattle.machine.proofs.Turns.{handed_kept}
 use Rattle.machine.proofs.Backs.{back_skip, back_second, back_beside, back_lefted, back_righted, back_paired}
 use Rattle.machine.proofs.back_to.Goals as goal
 
@@ -16,12 +17,12 @@ returns-in-Beside c =
 
 pub returns-in-Lefted : goal.returns-in-Lefted
 returns-in-Lefted c =
-    λ b ws. back_lefted c.requires.step_is.0 c.requires.step_is.1.0 c.requires.step_is.1.1 c.in-Lefted.is c.store.ensures
+    λ b ws. back_lefted c.requires.step_is.0 c.requires.step_is.1.0 c.requires.step_is.1.1 c.in-Lefted.is (handed_kept c.from.ensures c.keep.ensures c.back_kept.ensures)
 
 pub returns-in-Righted : goal.returns-in-Righted
 returns-in-Righted c =
-    λ b ws. back_righted c.requires.step_is.0 c.requires.step_is.1.0 c.requires.step_is.1.1 c.in-Righted.is c.store-in-Righted.ensures
+    λ b ws. back_righted c.requires.step_is.0 c.requires.step_is.1.0 c.requires.step_is.1.1 c.in-Righted.is (handed_kept c.from-in-Righted.ensures c.keep-in-Righted.ensures c.back_kept-in-Righted.ensures)
 
 pub returns-in-Paired : goal.returns-in-Paired
 returns-in-Paired c =
-    λ b ws. back_paired c.requires.step_is.0 c.requires.step_is.1.0 c.requires.step_is.1.1 c.in-Paired.is c.store-in-Paired.ensures
+    λ b ws. back_paired c.requires.step_is.0 c.requires.step_is.1.0 c.requires.step_is.1.1 c.in-Paired.is (handed_kept c.from-in-Paired.ensures c.keep-in-Paired.ensures c.back_kept-in-Paired.ensures)

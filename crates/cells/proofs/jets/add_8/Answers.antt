@@ -11,5 +11,4 @@ returns-in_err-a c =
 
 pub returns : goal.returns
 returns c =
-    rw c.ok_or-2.ensures.value
-    (add_made _ c.argument_size-k.ensures c.words_at.ensures c.in_ok-a.ensures.ok_part (search rules) (search rules) (search rules) c.keep_sum.ensures)
+    add_made _ c.argument_size-k.ensures c.words_at.ensures c.in_ok-a.ensures.ok_part c.from.ensures (search rules) (search rules) (search rules) c.keep_sum.ensures

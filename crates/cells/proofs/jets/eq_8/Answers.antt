@@ -9,5 +9,4 @@ returns-in_err-a c =
     (words_stuck _ c.argument_size.ensures c.words_at.ensures _ c.in_err-a.ensures.ok_part)
 
 pub returns : goal.returns
-returns c =
-    rw c.ok_or-2.ensures.value (eq_made _ c.argument_size.ensures c.words_at.ensures c.in_ok-a.ensures.ok_part c.keep_bit.ensures)
+returns c = eq_made _ c.argument_size.ensures c.words_at.ensures c.in_ok-a.ensures.ok_part c.from.ensures c.keep_bit.ensures

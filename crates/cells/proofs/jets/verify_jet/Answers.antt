@@ -10,8 +10,7 @@ returns-in_err-n c =
 
 pub returns-then-n-eq1 : goal.returns-then-n-eq1
 returns-then-n-eq1 c =
-    rw c.ok_or-then-n-eq1.ensures.value
-    (verify_made _ c.argument_size.ensures c.word_at.ensures c.in_ok-n.ensures.ok_part c.if-n-eq1.true c.keep.ensures)
+    verify_made _ c.argument_size.ensures c.word_at.ensures c.in_ok-n.ensures.ok_part c.if-n-eq1.true c.from.ensures c.keep.ensures
 
 pub returns-else-n-eq1 : goal.returns-else-n-eq1
 returns-else-n-eq1 c = verify_fails _ c.argument_size.ensures c.word_at.ensures c.in_ok-n.ensures.ok_part c.if-n-eq1.false

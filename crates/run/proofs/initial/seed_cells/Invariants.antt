@@ -2,10 +2,9 @@
 -- Assumes nothing.
 use Prim.Native.Nat.{ℕ}
 use mathlib.Core.List.{List}
-use Rattle.std.specs.Prelude.{Some}
 use Rattle.run.specs.Calls.{Started}
 use Rattle.run.proofs.initial.seed_cells.Given as goal
 
 abbrev pub invariant-loop-r : goal.invariant-loop-r
 invariant-loop-r l =
-    (s : List ℕ) → Started l.book 0 s (Some l.initial.used) l.initial.cells → Started l.book l.r s (Some l.used) l.cells
+    (s : List ℕ) → Started l.book 0 s l.initial.p l.initial.cells → Started l.book l.r s l.p l.cells
