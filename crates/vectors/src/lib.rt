@@ -1,9 +1,12 @@
 // What the programs share that replay vectors: numbers in bytes, tables held against what is due, and the verdict.
 #![tactic(auto)]
 
-ghost use Rattle.std.specs.Prelude.{◌≡◌, ◌≤◌, true, ◌+◌, ◌*◌, ◌++◌, length, codes, OnOk};
+ghost use Rattle.std.specs.Prelude.{◌≡◌, ◌≤◌, Bool, true, ◌+◌, ◌*◌, List, ◌++◌, length, codes, OnOk};
+ghost use Rattle.std.specs.List.{FoldsTo};
 ghost use Rattle.std.specs.Io.KnownBytes.{Appends};
 ghost use Rattle.console.specs.Lines.{count_line};
+ghost use Rattle.vectors.specs.Due.{is_due};
+ghost use Rattle.vectors.specs.Replayed.{Gives, Replayed};
 ghost use Rattle.vectors.specs.Tables.{Alike, AllFrom};
 
 use book::fault::{Numbers, Refusal, fault_number};
@@ -80,7 +83,9 @@ pub fn print_totals<W: Write>(out: &mut W, all: u64, wrong: u64) -> io::Result<(
 }
 
 // Whether an answer is the one that is due: a success by its count, a refusal by its number and place.
-pub fn is_due(answer: Result<u16, Refusal>, due: Numbers) -> bool {
+pub fn is_due(answer: Result<u16, Refusal>, due: Numbers) -> bool
+    ensures { result ≡ is_due answer due }
+{
     match answer {
         Ok(count) => due.number == 0 && due.count == count,
         Err(why) => due.number == fault_number(why.fault) && due.place == why.place,
@@ -101,6 +106,8 @@ pub fn replay<
 >(input: &mut R, out: &mut W, mut is_next_right: F) -> io::Result<()>
     requires head_fits { N ≤ 256 }
     requires callable { F.IsAlwaysCallable is_next_right }
+    ensures { OnOk result ((vs : List Bool) × Replayed vs (W.contents out.old) (W.contents out.new)
+        × ((last : F) × FoldsTo (Gives F.step) is_next_right vs last)) }
 {
     let mut head = [0u8; N];
     let mut all = 0;
@@ -165,6 +172,7 @@ pub fn replay_books<R: Read, W: Write, F: Fn(&[u8], Numbers) -> bool>(
     is_right: F,
 ) -> io::Result<()>
     requires { (f : _) (x1 : _) (x2 : _) → F.pre f x1 x2 }
+    ensures { OnOk result ((vs : List Bool) × Replayed vs (W.contents out.old) (W.contents out.new)) }
 {
     replay(
         input,
