@@ -1,6 +1,6 @@
 -- The verdicts on the vectors that were replayed, and the lines that were printed of them.
 -- Assumes nothing.
-use Rattle.std.proofs.Common.{◌≡◌, ℕ, ◌+◌, ◌≤◌, Bool, true, false, List, [], ◌∷◌, ◌++◌, length, codes, Option, refl, sym, ap, ◌∙◌, subst, arith, length-append}
+use Rattle.std.proofs.Common.{◌≡◌, ℕ, ◌+◌, ◌≤◌, Bool, true, false, List, [], ◌∷◌, ◌++◌, length, codes, Option, Result, Ok, Err, OnOk, refl, sym, ap, ◌∙◌, subst, arith, length-append}
 use Rattle.std.proofs.KnownBytes.{Appends-nil, Appends-trans}
 use Rattle.std.proofs.lemmas.List.{flat_map_more}
 use Rattle.std.specs.Io.KnownBytes.{Appends}
@@ -54,7 +54,13 @@ told_wrong a b c n w vs v e t p =
       lines = subst (λ l. Appends a c (wrong_lines l)) more (subst (Appends a c) line (Appends-trans a b c _ _ t.lines p));
     }
 
-pub told_all : (a b c : Option (List ℕ)) (n w : ℕ) (vs : List Bool) → n ≤ 1000000 → Told a b n w vs → Appends b c (total_lines n w) → Replayed vs a c
-told_all a b c n w vs most t p =
-    (subst (λ m. m ≤ 1000000) (sym t.count) most,
-    Appends-trans a b c _ _ t.lines (subst (λ m. Appends b c (total_lines (length vs) m)) t.wrong_count (subst (λ m. Appends b c (total_lines m w)) (sym t.count) p)))
+told_all : (a b c : Option (List ℕ)) (n w : ℕ) (vs : List Bool) → n ≤ 1000000 → Told a b n w vs → Appends b c (total_lines n w) → Replayed vs a c
+told_all a b c n w vs most t p = (
+  subst (λ m. m ≤ 1000000) (sym t.count) most,
+  Appends-trans a b c _ _ t.lines (subst (λ m. Appends b c (total_lines (length vs) m)) t.wrong_count (subst (λ m. Appends b c (total_lines m w)) (sym t.count) p)),
+)
+
+-- what is printed at the end, and what else holds of the verdicts
+pub told_ok : {T E : Type 0} (X : List Bool → Type 0) (r : Result T E) (a b c : Option (List ℕ)) (n all w : ℕ) (vs : List Bool) → n ≤ 1000000 → all ≡ n → Told a b n w vs → X vs → OnOk r (Appends b c (total_lines all w)) → OnOk r ((us : List Bool) × Replayed us a c × X us)
+told_ok X (Ok x) a b c n all w vs most e t h p = (vs, told_all a b c n w vs most t (subst (λ m. Appends b c (total_lines m w)) e p), h)
+told_ok X (Err x) a b c n all w vs most e t h p = tt

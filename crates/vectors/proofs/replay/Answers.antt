@@ -1,10 +1,7 @@
 -- `replay`: a step adds a verdict, and the line of a vector that was wrong.
-use Rattle.std.proofs.Common.{◌≡◌, ◌+◌, ◌≤◌, [], ◌∷◌, ◌++◌, refl, sym, ap, ◌∙◌, subst, rules, of_calls, arith}
+use Rattle.std.proofs.Common.{◌+◌, [], ◌∷◌, ◌++◌, refl, sym, subst, rules, of_calls, arith}
 use Rattle.std.proofs.lemmas.Fn.{FoldsTo-push}
-use Rattle.std.proofs.lemmas.Result.{on_ok_weaker}
-use Rattle.std.specs.Io.KnownBytes.{Appends}
-use Rattle.vectors.specs.Replayed.{total_lines}
-use Rattle.vectors.proofs.Told.{Told, told_none, told_right, told_wrong, told_all}
+use Rattle.vectors.proofs.Told.{Told, told_none, told_right, told_wrong, told_ok}
 use Rattle.vectors.proofs.replay.Goals as goal
 use Rattle.vectors.proofs.replay.Goals.{then-not-branch+in_ok-print_wrong, else-not-branch}
 
@@ -20,27 +17,32 @@ loop-i-preserved g c =
     let called = FoldsTo-push _ c.args.is_next_right vs c.loop-i.is_next_right v c.is_next_right.new.self h.3.2 (_, _, _, c.in_ok-is_next_right.ensures) in
     let callable : goal.F-IsAlwaysCallable g c.is_next_right.new.self = search of_calls in
     elim c.if-not-branch.branch [
-      then-not-branch+in_ok-print_wrong w ↦
-      (omega arith, refl, callable, (vs ++ (v ∷ []),
-      subst (λ n. Told before (g.W.Write.contents c.if-not-branch.out) (c.loop-i.i + 1) n (vs ++ (v ∷ []))) (sym w.wrong-is)
-      (told_wrong before (g.W.Write.contents c.loop-i.out) (g.W.Write.contents c.if-not-branch.out) c.loop-i.i c.loop-i.wrong vs v w.if-not-branch.true h.3.1 (search rules)),
-      called))
-    | else-not-branch w ↦
-      (omega arith, refl, callable, (vs ++ (v ∷ []),
-      subst (λ n. Told before (g.W.Write.contents c.if-not-branch.out) (c.loop-i.i + 1) n (vs ++ (v ∷ []))) (sym w.wrong-is)
-      (subst (λ o. Told before (g.W.Write.contents o) (c.loop-i.i + 1) c.loop-i.wrong (vs ++ (v ∷ []))) (sym w.out-is)
-      (told_right before (g.W.Write.contents c.loop-i.out) c.loop-i.i c.loop-i.wrong vs v w.if-not-branch.false h.3.1)),
-      called)) ]
+      | then-not-branch+in_ok-print_wrong w ↦ (
+        omega arith,
+        refl,
+        callable,
+        (
+          vs ++ (v ∷ []),
+          subst (λ n. Told before (g.W.Write.contents c.if-not-branch.out) (c.loop-i.i + 1) n (vs ++ (v ∷ []))) (sym w.wrong-is)
+              (told_wrong before (g.W.Write.contents c.loop-i.out) (g.W.Write.contents c.if-not-branch.out) c.loop-i.i c.loop-i.wrong vs v w.if-not-branch.true h.3.1 (search rules)),
+          called,
+        ),
+      )
+      | else-not-branch w ↦ (
+        omega arith,
+        refl,
+        callable,
+        (
+          vs ++ (v ∷ []),
+          subst (λ n. Told before (g.W.Write.contents c.if-not-branch.out) (c.loop-i.i + 1) n (vs ++ (v ∷ []))) (sym w.wrong-is)
+              (subst (λ o. Told before (g.W.Write.contents o) (c.loop-i.i + 1) c.loop-i.wrong (vs ++ (v ∷ []))) (sym w.out-is)
+              (told_right before (g.W.Write.contents c.loop-i.out) c.loop-i.i c.loop-i.wrong vs v w.if-not-branch.false h.3.1)),
+          called,
+        ),
+      )
+    ]
 
 pub returns : goal.returns
 returns g c =
     let h = c.loop-i.invariant in
-    let vs = h.3.0 in
-    let out = g.W.Write.contents c.print_totals.new.out in
-    let all = h.1 in
-    on_ok_weaker c.print_totals.result
-    (λ p. (vs,
-    told_all (g.W.Write.contents c.args.out.now) (g.W.Write.contents c.loop-i.out) out c.loop-i.i c.loop-i.wrong vs c.loop-i.auto.i-end h.3.1
-    (subst (λ n. Appends (g.W.Write.contents c.loop-i.out) out (total_lines n c.loop-i.wrong)) all p),
-    (c.loop-i.is_next_right, h.3.2)))
-    c.print_totals.ensures
+    told_ok _ c.print_totals.result (g.W.Write.contents c.args.out.now) (g.W.Write.contents c.loop-i.out) _ c.loop-i.i c.loop-i.all c.loop-i.wrong h.3.0 c.loop-i.auto.i-end h.1 h.3.1 (c.loop-i.is_next_right, h.3.2) c.print_totals.ensures
