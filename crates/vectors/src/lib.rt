@@ -96,7 +96,7 @@ pub fn is_due(answer: Result<u16, Refusal>, due: Numbers) -> bool
 const MOST: u64 = 1_000_000;
 
 // Replays a stream of vectors, each behind a head of N bytes. Prints which answers were wrong, how many vectors there were, and how many
-// were wrong.
+// were wrong. Each verdict is that of a call, in the order of the calls.
 pub fn replay<
     const N: usize,
     H: From<[u8; N]> + Drop,
