@@ -8,10 +8,12 @@ use Rattle.simplicity.specs.Types.{Ty}
 use Rattle.book.specs.Format.{TYPE, PATTERN, FUNCTION}
 use Rattle.book.specs.Index.{kind}
 use Rattle.book.specs.Stands.{Stands}
+use Rattle.book.specs.Text.{Text}
 use Rattle.book.specs.Tree.{Pat, type_of, pattern_of, fun_of}
 use Rattle.pattern.specs.Find.{find, params_of}
 use Rattle.pattern.specs.Seeks.{Memo}
 use Rattle.shapes.specs.Shapes.{products, leads}
+use Rattle.shapes.specs.Views.{type_at}
 use Rattle.binders.specs.Binders.{fits, names, param_names, twice, Binding, binding, root_scope, scope_in, type_for}
 use Rattle.binders.specs.declared.Binding.{Binding as Entry}
 use Rattle.binders.specs.declared.Noted.{Noted}
@@ -146,3 +148,43 @@ pub record Live (b i : List ℕ) (bs : List Entry) (n : ℕ) (base : Option ℕ)
 pub data Newest (b i : List ℕ) (bs : List Entry) (n : ℕ) (base : Option ℕ) (x : ℕ) : Option ℕ → Type 0 where
   found : {s : ℕ} → Stands b i s TYPE → type_for x (scope_of b i bs n base) ≡ some (type_of b i s) → Newest b i bs n base x (Some s)
   passed : type_for x (scope_of b i bs n base) ≡ type_for x (base_of b i base) → Newest b i bs n base x None
+
+-- a book as contracts see it
+module _ (x : Text) where
+  -- the pattern of record p; what may be bound
+  abbrev pub pattern_at : ℕ → Pat
+  pattern_at p = pattern_of x.bytes x.index p
+
+  abbrev pub BindsIn : ℕ → ℕ → Type 0
+  BindsIn p t = Binds x.bytes x.index p t
+
+  -- each pair that is marked fits; and f says whether pattern p fits type t
+  abbrev pub KnownIn : List ℕ → Type 0
+  KnownIn memo = Known x.bytes x.index memo
+
+  abbrev pub FittedIn : ℕ → ℕ → Bool → List ℕ → Type 0
+  FittedIn p t f memo' = Fitted x.bytes x.index (fits (pattern_at p) (type_at x t)) f memo'
+
+  -- the row is true only where the pattern has no names; and the names of pattern p were met, which came to s
+  abbrev pub NamelessIn : List Bool → Type 0
+  NamelessIn ms = Nameless x.bytes x.index ms
+
+  abbrev pub TalliesIn : ℕ → ℕ → List ℕ → Noted → List ℕ → List Bool → Type 0
+  TalliesIn p stamp ns s ns' ms' = Tallies x.bytes x.index stamp (names (pattern_at p)) ns s ns' ms'
+
+  -- the row is true only where the name was sought in vain; and it was sought in pattern p, beside type t
+  abbrev pub MemoIn : ℕ → List Bool → Type 0
+  MemoIn name ms = Memo x.bytes x.index name ms
+
+  abbrev pub SightsIn : ℕ → ℕ → ℕ → Option ℕ → List Bool → Type 0
+  SightsIn name p t s ms' = Sights x.bytes x.index name (pattern_at p) (type_at x t) s ms'
+
+  -- a row of live bindings; its scope; and what it has of the name
+  abbrev pub LiveIn : List Entry → Option ℕ → Type 0
+  LiveIn bs base = Live x.bytes x.index bs (length bs) base
+
+  abbrev pub scope_in_row : List Entry → Option ℕ → List Binding
+  scope_in_row bs base = scope_of x.bytes x.index bs (length bs) base
+
+  abbrev pub NewestIn : List Entry → Option ℕ → ℕ → Option ℕ → Type 0
+  NewestIn bs base n s = Newest x.bytes x.index bs (length bs) base n s

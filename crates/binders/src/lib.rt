@@ -5,15 +5,15 @@
 ghost use Rattle.std.specs.Prelude.{[], ◌∷◌, ◌≡◌, false, ◌+◌, ◌<◌, length, replicate};
 ghost use Rattle.std.proofs.Math.Option.{none};
 ghost use Rattle.book.specs.Format.{TYPE, PATTERN, FUNCTION, PT};
-ghost use Rattle.book.specs.Index.{mark, kind};
-ghost use Rattle.book.specs.Stands.{Stands};
+ghost use Rattle.book.specs.Index.{kind};
 ghost use Rattle.book.specs.Valid.{Valid};
-ghost use Rattle.book.specs.Tree.{type_of, pattern_of, fun_of};
+ghost use Rattle.book.specs.Tree.{fun_of};
 ghost use Rattle.pattern.specs.Find.{find};
-ghost use Rattle.pattern.specs.Seeks.{Memo};
-ghost use Rattle.shapes.specs.Views.{Gives};
-ghost use Rattle.binders.specs.Binders.{fits, names, type_for, scope_in};
-ghost use Rattle.binders.specs.Memos.{width_of, word_of, marked, Known, Marks, Fitted, Sights, Met, Nameless, Notes, Tallies, Bears, params_twice, Doubled, Repeats, Binds, scope_of, Live, Newest};
+ghost use Rattle.book.specs.Books.{StandsIn, mark_in};
+ghost use Rattle.shapes.specs.Views.{GivesIn};
+ghost use Rattle.binders.specs.Binders.{type_for, scope_in};
+ghost use Rattle.binders.specs.Memos.{BindsIn, KnownIn, FittedIn, NamelessIn, TalliesIn, MemoIn, SightsIn, pattern_at};
+ghost use Rattle.binders.specs.Memos.{width_of, word_of, marked, Marks, Met, Notes, Bears, params_twice, Doubled, Repeats, LiveIn, NewestIn, scope_in_row};
 
 use book::format::{FN, PI, PN, PT, TP};
 use book::record::Book;
@@ -26,7 +26,8 @@ fn width_of(length: usize) -> usize
     if length <= 8192 { 16 } else { 128 }
 }
 
-// The word of a pair, in a memo of so many words: its end where the pattern has no bit for the type.
+// The word of a pair, in a memo of so many words: its end where the pattern has no bit for the type. No Option: a pattern beyond the memo
+// asks its callers for the same test.
 fn word_of(p: usize, t: usize, length: usize) -> usize
     requires { p < 65536 }
     ensures { result ≡ word_of length p t }
@@ -69,8 +70,8 @@ fn mark(p: usize, t: usize, memo: &mut [u32])
 // Whether a pattern fits a type. What is found to fit is kept for later questions; what does not fit ends them all.
 #[cycle(fitting)]
 pub fn fits(book: &Book, p: u16, t: u16, memo: &mut [u32]) -> bool
-    requires { (Stands book.now.bytes book.now.index p PATTERN) × ((Stands book.now.bytes book.now.index t TYPE) × (Known book.now.bytes book.now.index memo.old)) }
-    ensures { Fitted book.now.bytes book.now.index (fits (pattern_of book.now.bytes book.now.index p) (type_of book.now.bytes book.now.index t)) result memo.new }
+    requires { (StandsIn book.now p PATTERN) × ((StandsIn book.now t TYPE) × (KnownIn book.now memo.old)) }
+    ensures { FittedIn book.now p t result memo.new }
 {
     if book.mark_at(p) != PT {
         return true;
@@ -88,8 +89,8 @@ pub fn fits(book: &Book, p: u16, t: u16, memo: &mut [u32]) -> bool
 // The same for a row: each element fits the type at its place.
 #[cycle(fitting)]
 fn fits_row(book: &Book, p: u16, t: u16, memo: &mut [u32]) -> bool
-    requires { (Stands book.now.bytes book.now.index p PATTERN) × ((mark book.now.bytes book.now.index p ≡ PT) × ((Stands book.now.bytes book.now.index t TYPE) × (Known book.now.bytes book.now.index memo.old))) }
-    ensures { Fitted book.now.bytes book.now.index (fits (pattern_of book.now.bytes book.now.index p) (type_of book.now.bytes book.now.index t)) result memo.new }
+    requires { (StandsIn book.now p PATTERN) × ((mark_in book.now p ≡ PT) × ((StandsIn book.now t TYPE) × (KnownIn book.now memo.old))) }
+    ensures { FittedIn book.now p t result memo.new }
 {
     let n = book.field_at(p, 0) as u32;
     if n == 0 {
@@ -131,8 +132,8 @@ fn note(name: u16, met: &mut [u16], stamp: u16) -> Noted
 // again leads straight to a name that was met.
 #[cycle(noting)]
 fn note_all(book: &Book, p: u16, met: &mut [u16], stamp: u16, nameless: &mut [bool]) -> Noted
-    requires { (Stands book.now.bytes book.now.index p PATTERN) × ((Met stamp met.old) × (Nameless book.now.bytes book.now.index nameless.old)) }
-    ensures { Tallies book.now.bytes book.now.index stamp (names (pattern_of book.now.bytes book.now.index p)) met.old result met.new nameless.new }
+    requires { (StandsIn book.now p PATTERN) × ((Met stamp met.old) × (NamelessIn book.now nameless.old)) }
+    ensures { TalliesIn book.now p stamp met.old result met.new nameless.new }
 {
     if nameless[p as usize] {
         return Noted::Unnamed;
@@ -151,8 +152,8 @@ fn note_all(book: &Book, p: u16, met: &mut [u16], stamp: u16, nameless: &mut [bo
 // The same for a row: its elements one after another.
 #[cycle(noting)]
 fn note_row(book: &Book, p: u16, met: &mut [u16], stamp: u16, nameless: &mut [bool]) -> Noted
-    requires { (Stands book.now.bytes book.now.index p PATTERN) × ((mark book.now.bytes book.now.index p ≡ PT) × ((Met stamp met.old) × (Nameless book.now.bytes book.now.index nameless.old))) }
-    ensures { Tallies book.now.bytes book.now.index stamp (names (pattern_of book.now.bytes book.now.index p)) met.old result met.new nameless.new }
+    requires { (StandsIn book.now p PATTERN) × ((mark_in book.now p ≡ PT) × ((Met stamp met.old) × (NamelessIn book.now nameless.old))) }
+    ensures { TalliesIn book.now p stamp met.old result met.new nameless.new }
 {
     let n = book.field_at(p, 0) as usize;
     let mut any = false;
@@ -173,9 +174,9 @@ fn note_row(book: &Book, p: u16, met: &mut [u16], stamp: u16, nameless: &mut [bo
 
 // The record that has all names of a row: none, the one part of it that bears names, or the row itself.
 fn bearer(book: &Book, p: u16, nameless: &[bool]) -> Option<u16>
-    requires stands { Stands book.now.bytes book.now.index p PATTERN }
-    requires mark_is { mark book.now.bytes book.now.index p ≡ PT }
-    requires nameless { Nameless book.now.bytes book.now.index nameless.now }
+    requires stands { StandsIn book.now p PATTERN }
+    requires mark_is { mark_in book.now p ≡ PT }
+    requires nameless { NamelessIn book.now nameless.now }
     ensures { Bears book.now.bytes book.now.index p result }
 {
     let n = book.field_at(p, 0) as usize;
@@ -195,10 +196,10 @@ fn bearer(book: &Book, p: u16, nameless: &[bool]) -> Option<u16>
 // Whether a row has a name twice. Where one part alone bears names, that part's answer is the row's, so that a chain of rows is not
 // walked again for each of them. The names are met with a stamp of the row's own.
 fn repeats(book: &Book, p: u16, met: &mut [u16], nameless: &mut [bool], doubled: &[bool]) -> bool
-    requires stands { Stands book.now.bytes book.now.index p PATTERN }
-    requires mark_is { mark book.now.bytes book.now.index p ≡ PT }
+    requires stands { StandsIn book.now p PATTERN }
+    requires mark_is { mark_in book.now p ≡ PT }
     requires met { Met p met.old }
-    requires nameless { Nameless book.now.bytes book.now.index nameless.old }
+    requires nameless { NamelessIn book.now nameless.old }
     requires doubled { Doubled book.now.bytes book.now.index p doubled.now }
     ensures { Repeats book.now.bytes book.now.index p result met.new nameless.new }
 {
@@ -218,7 +219,7 @@ fn repeats(book: &Book, p: u16, met: &mut [u16], nameless: &mut [bool], doubled:
 
 // Whether a function's parameter list has a name twice. The names are met with a stamp of the function's own.
 fn params_repeat(book: &Book, f: u16, met: &mut [u16]) -> bool
-    requires stands { Stands book.now.bytes book.now.index f FUNCTION }
+    requires stands { StandsIn book.now f FUNCTION }
     requires met { Met f met.old }
     ensures { (result ≡ params_twice book.now.bytes book.now.index f) × Met (f + 1) met.new }
 {
@@ -236,9 +237,9 @@ fn params_repeat(book: &Book, f: u16, met: &mut [u16]) -> bool
 
 // Whether record r is a pattern or a function with a name twice. The stamps of the records before it are lower than its own.
 fn doubled_at(book: &Book, r: u16, met: &mut [u16], nameless: &mut [bool], doubled: &[bool]) -> bool
-    requires stands { Stands book.now.bytes book.now.index r (kind book.now.bytes book.now.index r) }
+    requires stands { StandsIn book.now r (kind book.now.bytes book.now.index r) }
     requires met { Met r met.old }
-    requires nameless { Nameless book.now.bytes book.now.index nameless.old }
+    requires nameless { NamelessIn book.now nameless.old }
     requires doubled { Doubled book.now.bytes book.now.index r doubled.now }
     ensures { Repeats book.now.bytes book.now.index r result met.new nameless.new }
 {
@@ -275,8 +276,8 @@ pub fn doubles(book: &Book, n: u16, doubled: &mut [bool])
 // name was already sought there in vain.
 #[cycle(sighting)]
 fn type_in(book: &Book, p: u16, t: u16, name: u16, missing: &mut [bool]) -> Option<u16>
-    requires { (Binds book.now.bytes book.now.index p t) × (Memo book.now.bytes book.now.index name missing.old) }
-    ensures { Sights book.now.bytes book.now.index name (pattern_of book.now.bytes book.now.index p) (type_of book.now.bytes book.now.index t) result missing.new }
+    requires { (BindsIn book.now p t) × (MemoIn book.now name missing.old) }
+    ensures { SightsIn book.now name p t result missing.new }
 {
     if missing[p as usize] {
         return None;
@@ -294,9 +295,9 @@ fn type_in(book: &Book, p: u16, t: u16, name: u16, missing: &mut [bool]) -> Opti
 // Whether a pattern may have a name: it is that name, or a row in which it was not sought in vain. Most elements of a wide row are
 // passed so, without the way down to their type.
 fn may_have(book: &Book, p: u16, name: u16, missing: &[bool]) -> bool
-    requires stands { Stands book.now.bytes book.now.index p PATTERN }
-    requires memo { Memo book.now.bytes book.now.index name missing.now }
-    ensures { result ≡ false → find name (pattern_of book.now.bytes book.now.index p) ≡ none }
+    requires stands { StandsIn book.now p PATTERN }
+    requires memo { MemoIn book.now name missing.now }
+    ensures { result ≡ false → find name (pattern_at book.now p) ≡ none }
 {
     if missing[p as usize] {
         return false;
@@ -311,8 +312,8 @@ fn may_have(book: &Book, p: u16, name: u16, missing: &[bool]) -> bool
 // The same for a row: its elements one after another, each with the type at its place.
 #[cycle(sighting)]
 fn type_in_row(book: &Book, p: u16, t: u16, name: u16, missing: &mut [bool]) -> Option<u16>
-    requires { (Binds book.now.bytes book.now.index p t) × ((mark book.now.bytes book.now.index p ≡ PT) × (Memo book.now.bytes book.now.index name missing.old)) }
-    ensures { Sights book.now.bytes book.now.index name (pattern_of book.now.bytes book.now.index p) (type_of book.now.bytes book.now.index t) result missing.new }
+    requires { (BindsIn book.now p t) × ((mark_in book.now p ≡ PT) × (MemoIn book.now name missing.old)) }
+    ensures { SightsIn book.now name p t result missing.new }
 {
     let n = book.field_at(p, 0) as u32;
     for k in 0..n {
@@ -332,8 +333,8 @@ fn type_in_row(book: &Book, p: u16, t: u16, name: u16, missing: &mut [bool]) -> 
 
 // The type of a function's first parameter of a name.
 fn type_of_param(book: &Book, f: u16, name: u16) -> Option<u16>
-    requires { Stands book.now.bytes book.now.index f FUNCTION }
-    ensures { Gives book.now.bytes book.now.index (type_for name (scope_in (fun_of book.now.bytes book.now.index f))) result }
+    requires { StandsIn book.now f FUNCTION }
+    ensures { GivesIn book.now (type_for name (scope_in (fun_of book.now.bytes book.now.index f))) result }
 {
     let n = book.field_at(f, 1) as usize;
     for k in 0..n {
@@ -356,17 +357,16 @@ pub struct Binding {
 fn newest_type(
     book: &Book,
     bindings: &[Binding],
-    live: usize,
     base: Option<u16>,
     name: u16,
     missing: &mut [bool],
 ) -> Option<u16>
-    requires live { Live book.now.bytes book.now.index bindings.now live base }
+    requires live { LiveIn book.now bindings.now base }
     requires missing_length { length missing.old ≡ 4096 }
-    ensures { (Newest book.now.bytes book.now.index bindings.now live base name result) × (length missing.new ≡ 4096) }
+    ensures { (NewestIn book.now bindings.now base name result) × (length missing.new ≡ 4096) }
 {
     missing.fill(false);
-    for at in (0..live).rev() {
+    for at in (0..bindings.len()).rev() {
         let binding = bindings[at];
         let found = type_in(book, binding.pattern, binding.of, name, missing);
         if found.is_some() {
@@ -380,16 +380,15 @@ fn newest_type(
 pub fn type_for(
     book: &Book,
     bindings: &[Binding],
-    live: usize,
     base: Option<u16>,
     name: u16,
     missing: &mut [bool],
 ) -> Option<u16>
-    requires live { Live book.now.bytes book.now.index bindings.now live base }
+    requires live { LiveIn book.now bindings.now base }
     requires missing_length { length missing.old ≡ 4096 }
-    ensures { (Gives book.now.bytes book.now.index (type_for name (scope_of book.now.bytes book.now.index bindings.now live base)) result) × (length missing.new ≡ 4096) }
+    ensures { (GivesIn book.now (type_for name (scope_in_row book.now bindings.now base)) result) × (length missing.new ≡ 4096) }
 {
-    let found = newest_type(book, bindings, live, base, name, missing);
+    let found = newest_type(book, bindings, base, name, missing);
     if found.is_some() {
         return found;
     }

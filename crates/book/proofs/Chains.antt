@@ -10,38 +10,37 @@ use native.Mathlib.Omega.{arith}
 use borrow.Author.Tests.{eqb-true, eq-eqb, ne_eqb}
 use lib.Dec.{eqb}
 use lib.ListN.{get_or}
+use Rattle.std.proofs.lemmas.Bool.{false_from_ne_true}
 use Rattle.laws.specs.Table.{pick, below, some, true_false}
 use Rattle.book.specs.Format.{word_at, kind_of, TYPE, TU}
 use Rattle.book.specs.Read.{mark_at, kind_at, total_at, field_at, alike, repeats}
-use Rattle.book.specs.Ready.{Framed, Rows, chain_of, Reaches, here, later, Chained}
+use Rattle.book.specs.Ready.{Opens, Rows, chain_of, Reaches, here, later, Chained}
+use Rattle.book.specs.declared.read.Frame.{Frame}
+use Rattle.book.specs.declared.read.Reader.{Reader}
 use Rattle.book.proofs.Alikes.{two_fields, first_field, second_field, repeats_some}
-use Rattle.book.proofs.Picks.{both_true, not_true}
+use Rattle.book.proofs.Picks.{both_true}
 use Rattle.book.proofs.Unlike.{letters_same, marks_same, kinds_same, none_some, some_false}
-
--- an entry behind those of the records
-abbrev pub Behind : ℕ → Type 0
-Behind n = (4096 ≤ n) × (n < 5120)
 
 module _ (b : List ℕ) (p : ℕ) where
   -- the key of a type with two fields
   abbrev key : ℕ
   key = 67 * word_at b (p + 2) + 2 * word_at b (p + 4) + mark_at b p
 
-  -- a chain begins behind the records' entries
-  pub chain_within : Behind (chain_of b p)
+  -- there are 1,024 chains
+  pub chain_within : chain_of b p < 1024
   unfolding chain_of
   chain_within = go (eqb (mark_at b p) TU)
     where
-      go : (t : Bool) → Behind (pick t 4096 (4096 + key % 1024))
+      go : (t : Bool) → pick t 0 (key % 1024) < 1024
       go true = omega arith
       go false = omega (arith, mod-lt key {m = 1024} (omega arith))
 
   -- unit's chain, and the chain of any other type
-  pub chain_none : mark_at b p ≡ TU → 4096 ≡ chain_of b p
+  pub chain_none : mark_at b p ≡ TU → 0 ≡ chain_of b p
   unfolding chain_of
   chain_none e = rw (eq-eqb (mark_at b p) TU e)
 
-  pub chain_two : (mark_at b p ≡ TU → ⊥) → 4096 + key % 1024 ≡ chain_of b p
+  pub chain_two : (mark_at b p ≡ TU → ⊥) → key % 1024 ≡ chain_of b p
   unfolding chain_of
   chain_two n = rw (ne_eqb (mark_at b p) TU n)
 
@@ -78,40 +77,38 @@ some_at f n k h e = go (some f n) refl
     go false q = absurd (true_false (sym e ∙ none_some f n q k h))
 
 -- no chain goes on at 0
-ends : (cs : List ℕ) (j n : ℕ) → n ≡ 0 → Reaches cs j n → ⊥
-ends cs j n z (here e) = omega arith
-ends cs j n z (later h w) = omega arith
+ends : (ls : List ℕ) (j n : ℕ) → n ≡ 0 → Reaches ls j n → ⊥
+ends ls j n z (here e) = omega arith
+ends ls j n z (later h w) = omega arith
 
--- the walk for the type at p, of mark m, has come to n: whatever is alike is still to come
-pub record Walk (b i cs : List ℕ) (r p m n : ℕ) : Type 0 where
-  pub rows : Rows b i r
-  pub chained : Chained b i cs r
-  pub framed : Framed b p
-  pub mark : m ≡ mark_at b p
-  pub kind : kind_of m ≡ TYPE
+-- the walk for the type of frame f has come to n: whatever is alike is still to come
+pub record Walk (b : List ℕ) (s : Reader) (r : ℕ) (f : Frame) (n : ℕ) : Type 0 where
+  pub rows : Rows b s.index r
+  pub chained : Chained b s r
+  pub opens : Opens b f
+  pub kind : kind_of f.mark ≡ TYPE
   pub within : n ≤ r
-  pub ahead : (k : ℕ) → k < r → alike b p (get_or i k 0) ≡ true → Reaches cs k n
+  pub ahead : (k : ℕ) → k < r → alike b f.at (get_or s.index k 0) ≡ true → Reaches s.links k n
 
 -- it begins at the newest of the chain
-pub walk_start : {b i cs : List ℕ} {r p m : ℕ} → Rows b i r → Chained b i cs r → Framed b p → m ≡ mark_at b p → kind_of m ≡ TYPE → (c : ℕ) → c ≡ chain_of b p → Walk b i cs r p m (get_or cs c 0)
+pub walk_start : {b : List ℕ} {s : Reader} {r : ℕ} {f : Frame} → Rows b s.index r → Chained b s r → Opens b f → kind_of f.mark ≡ TYPE → (h : ℕ) → h ≡ chain_of b f.at → Walk b s r f (get_or s.heads h 0)
 unfolding kind_at
-walk_start {b} {i} {cs} {r} {p} {m} w c f is k h e =
-    let t : kind_at b p ≡ TYPE = rw (← is) k in
+walk_start {b} {s} {r} {f} w c o k h e =
+    let t : kind_at b f.at ≡ TYPE = rw (← o.mark) k in
     record {
       rows = w;
       chained = c;
-      framed = f;
-      mark = is;
+      opens = o;
       kind = k;
-      within = rw e (c.heads (chain_of b p) (chain_within b p).0 (chain_within b p).1);
-      ahead = λ j l a. rw (e, chain_alike b p (get_or i j 0) t a) (c.reached j l (sym (kinds_same b p (get_or i j 0) (letters_same b p (get_or i j 0) a)) ∙ t));
+      within = c.begins h;
+      ahead = λ j l a. rw (e, chain_alike b f.at (get_or s.index j 0) t a) (c.reached j l (sym (kinds_same b f.at (get_or s.index j 0) (letters_same b f.at (get_or s.index j 0) a)) ∙ t));
     }
 
-module _ {b i cs : List ℕ} {r p m n : ℕ} (g : Walk b i cs r p m n) where
+module _ {b : List ℕ} {s : Reader} {r : ℕ} {f : Frame} {n : ℕ} (g : Walk b s r f n) where
   -- no more is to come
-  pub walk_none : n ≤ 0 → false ≡ repeats b i r p
-  walk_none z = repeats_some b i r p m g.mark g.kind false (some_false (λ j. alike b p (get_or i j 0)) r (λ j l. not_true _ (λ a. ends cs j n (omega arith) (g.ahead j l a))))
+  pub walk_none : n ≤ 0 → false ≡ repeats b s.index r f.at
+  walk_none z = repeats_some b s.index r f.at f.mark g.opens.mark g.kind false (some_false (λ j. alike b f.at (get_or s.index j 0)) r (λ j l. false_from_ne_true _ (λ a. ends s.links j n (omega arith) (g.ahead j l a))))
 
   -- the record that it has come to is alike
-  pub walk_found : 0 < n → alike b p (get_or i (n - 1) 0) ≡ true → true ≡ repeats b i r p
-  walk_found h e = repeats_some b i r p m g.mark g.kind true (some_at (λ j. alike b p (get_or i j 0)) r (n - 1) (omega (arith, g.within)) e)
+  pub walk_found : 0 < n → alike b f.at (get_or s.index (n - 1) 0) ≡ true → true ≡ repeats b s.index r f.at
+  walk_found h e = repeats_some b s.index r f.at f.mark g.opens.mark g.kind true (some_at (λ j. alike b f.at (get_or s.index j 0)) r (n - 1) (omega (arith, g.within)) e)

@@ -12,13 +12,14 @@ use native.Mathlib.Decide.{dec_lt}
 use lib.ListN.{length, get_or, length-set}
 use lib.Seq.{get_or-set_other, ext_get_or}
 use borrow.Author.Tests.{lt-ltb, eqb-true}
+use Rattle.std.proofs.lemmas.Bool.{false_from_ne_true, not-true}
 use Rattle.laws.specs.Table.{true_false}
 use Rattle.book.specs.Format.{TYPE}
 use Rattle.book.specs.Read.{kind_at, total_at, end_at, alike, repeats, State, on, step, done, is_unnamed, loose, records, start, sized, reading}
 use Rattle.book.specs.Ready.{Framed}
 use Rattle.book.specs.Index.{depth}
 use Rattle.book.specs.Valid.{Uses, Tiles, Valid}
-use Rattle.book.proofs.Picks.{not_false, not_true, both_false}
+use Rattle.book.proofs.Picks.{both_false}
 use Rattle.book.proofs.Judging.{Fits}
 use Rattle.book.proofs.Moves.{verdict, after, step_can}
 use Rattle.book.proofs.Loose.{loosened}
@@ -93,7 +94,7 @@ module _ (b i : List ℕ) (n : ℕ) (tiles : Tiles b i n) (valid : Valid b i n) 
     -- so it is new
     fresh : repeats b s.index s.number s.place ≡ false
     unfolding repeats
-    fresh = both_false _ _ (λ e t. true_false (sym t ∙ some_false _ s.number (λ j l. not_true _ (differs j l (eqb-true _ _ e)))))
+    fresh = both_false _ _ (λ e t. true_false (sym t ∙ some_false _ s.number (λ j l. false_from_ne_true _ (differs j l (eqb-true _ _ e)))))
 
     -- it lies in the book
     framed : Framed b s.place
@@ -135,7 +136,7 @@ module _ (b i : List ℕ) (n : ℕ) (tiles : Tiles b i n) (valid : Valid b i n) 
   unfolding is_unnamed
   not_loose s e a x l = both_false _ _ (λ z o.
       let u = valid.all x l (rw (index_is s e a) at o) in
-      a.named.roll.marked u.by u.at x (record { before = earlier (let m = u.before in omega arith); uses = u.uses }) (not_false _ z))
+      a.named.roll.marked u.by u.at x (record { before = earlier (let m = u.before in omega arith); uses = u.uses }) (not-true _ z))
 
   -- so READ is done
   ended : (s : State) → s.number ≡ n → At b i n s → loose b s 0 (s.number - 1) ≡ done n i

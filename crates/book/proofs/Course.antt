@@ -1,7 +1,7 @@
 -- READ's course, an equation for each way that it goes on from a state, and the rows that it starts with.
 -- Assumes nothing.
 use Prim.Native.Nat.{ℕ, zero, suc, ◌-◌, ◌≤◌, ◌<◌}
-use mathlib.Core.Path.{◌≡◌, refl, ◌∙◌}
+use mathlib.Core.Path.{◌≡◌, refl}
 use mathlib.Core.List.{List}
 use mathlib.Core.Bool.{Bool, false}
 use native.Mathlib.Omega.{arith}
@@ -9,8 +9,7 @@ use lib.ListN.{length, get_or, replicate, length-replicate}
 use borrow.Author.Tests.{lt-ltb, le-ltb}
 use Rattle.book.specs.Faults.{refusal}
 use Rattle.book.specs.Read.{State, on, stop, step, refused, loose, records, start}
-use Rattle.book.specs.Ready.{Ready, OthersKept}
-use Rattle.book.specs.declared.read.Reader.{Reader}
+use Rattle.book.specs.Ready.{Ready}
 use Rattle.book.specs.declared.fault.Fault.{Fault}
 use Rattle.book.specs.declared.fault.Fault.TheVariants.{Records}
 
@@ -63,7 +62,3 @@ ready_start b h = record {
   noted = length_unnamed;
   deep = length_start;
 }
-
--- and stays so while its fields are judged
-pub ready_kept : {b : List ℕ} {s t : Reader} {r : ℕ} → OthersKept s t → Ready b s.index s.named s.depths r → Ready b t.index t.named t.depths r
-ready_kept k w = record { rows = rw k.index w.rows; noted = k.named ∙ w.noted; deep = rw k.depths w.deep }

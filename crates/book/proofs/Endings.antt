@@ -15,7 +15,7 @@ use Rattle.laws.specs.Table.{pick}
 use Rattle.book.specs.Format.{total_of, EXPRESSION}
 use Rattle.book.specs.Faults.{refusal}
 use Rattle.book.specs.Read.{mark_at, kind_at, layout_at, count_in, count_at, total_at, end_at, fields, Verdict, good, bad, State, Moved, stop, settle, step, done, refused, is_unnamed, loose}
-use Rattle.book.specs.Ready.{Opens, frame, frame_from, frame_of, verdict_of}
+use Rattle.book.specs.Ready.{Opens, frame_at, frame_from, frame_of, verdict_of}
 use Rattle.book.specs.declared.fault.Fault.{Fault}
 use Rattle.book.specs.declared.fault.Fault.TheVariants.{Cut, Mark, Loose}
 use Rattle.book.specs.declared.read.Frame.{Frame}
@@ -52,33 +52,30 @@ module _ (b : List ℕ) (s : State) (v : Result ℕ Fault) (nm : List Bool) (w :
   settle_good d e = ap (settle b s) (sym (ap (λ (u : Result ℕ Fault). verdict_of u nm) e) ∙ is)
 
 -- three tests in a row, as a frame and as a move
-bad_is : (t u v : Bool) (x : Moved) (m n e : ℕ) (f : Fault) → pick t (Err Cut) (pick u (Err Mark) (pick v (Err Cut) (Ok (frame m n e)))) ≡ Err f → stop f ≡ pick t (stop Cut) (pick u (stop Mark) (pick v (stop Cut) x))
-bad_is true u v x m n e f q = let z : f ≡ Cut = cc in ap stop z
-bad_is false true v x m n e f q = let z : f ≡ Mark = cc in ap stop z
-bad_is false false true x m n e f q = let z : f ≡ Cut = cc in ap stop z
-bad_is false false false x m n e f q = cc
+bad_is : (t u v : Bool) (x : Moved) (g : Frame) (f : Fault) → pick t (Err Cut) (pick u (Err Mark) (pick v (Err Cut) (Ok g))) ≡ Err f → stop f ≡ pick t (stop Cut) (pick u (stop Mark) (pick v (stop Cut) x))
+bad_is true u v x g f q = let z : f ≡ Cut = cc in ap stop z
+bad_is false true v x g f q = let z : f ≡ Mark = cc in ap stop z
+bad_is false false true x g f q = let z : f ≡ Cut = cc in ap stop z
+bad_is false false false x g f q = cc
 
 -- a frame that is there is no refusal
-of_frame : (f : Fault) (m n e : ℕ) → Err f ≡ Ok (frame m n e) → ⊥
-of_frame f m n e q = cc
+of_frame : (e : Fault) (f : Frame) → Err e ≡ Ok f → ⊥
+of_frame e f q = cc
 
--- what a frame that is there says: the three tests failed, and these are its mark, count and end
-record Whole (t u v : Bool) (m n e m' n' e' : ℕ) : Type 0 where
+-- what a frame that is there says: the three tests failed, and it is this one
+record Whole (t u v : Bool) (g f : Frame) : Type 0 where
   long : t ≡ false
   marked : u ≡ false
   uncut : v ≡ false
-  mark : m' ≡ m
-  count : n' ≡ n
-  end : e' ≡ e
+  is : f ≡ g
 
-whole_is : (t u v : Bool) (m n e m' n' e' : ℕ) → pick t (Err Cut) (pick u (Err Mark) (pick v (Err Cut) (Ok (frame m n e)))) ≡ Ok (frame m' n' e') → Whole t u v m n e m' n' e'
-whole_is t u v m n e m' n' e' q =
-    let x = second t _ _ _ (of_frame Cut m' n' e') q in
-    let y = second u _ _ _ (of_frame Mark m' n' e') x.1 in
-    let z = second v _ _ _ (of_frame Cut m' n' e') y.1 in
-    let o : Ok (frame m n e) ≡ Ok (frame m' n' e') = z.1 in
-    let w : frame m' n' e' ≡ frame m n e = cc in
-    record { long = x.0; marked = y.0; uncut = z.0; mark = ap (λ (f : Frame). f.mark) w; count = ap (λ (f : Frame). f.count) w; end = ap (λ (f : Frame). f.end) w }
+whole_is : (t u v : Bool) (g f : Frame) → pick t (Err Cut) (pick u (Err Mark) (pick v (Err Cut) (Ok g))) ≡ Ok f → Whole t u v g f
+whole_is t u v g f q =
+    let x = second t _ _ _ (of_frame Cut f) q in
+    let y = second u _ _ _ (of_frame Mark f) x.1 in
+    let z = second v _ _ _ (of_frame Cut f) y.1 in
+    let o : Ok g ≡ Ok f = z.1 in
+    record { long = x.0; marked = y.0; uncut = z.0; is = cc }
 
 -- a count is no greater than the record is long
 count_within : (b : List ℕ) (p : ℕ) → count_at b p ≤ total_at b p
@@ -92,27 +89,24 @@ count_within b p =
 module _ (b : List ℕ) (s : State) where
   pub step_bad : (f : Fault) → Err f ≡ frame_of b s.place → stop f ≡ step b s
   unfolding step frame_of frame_from
-  step_bad f q = bad_is (ltb (length b) (s.place + 2)) (eqb (mark_at b s.place) 0) (ltb (length b) (end_at b s.place)) _ _ _ _ f (sym q)
+  step_bad f q = bad_is (ltb (length b) (s.place + 2)) (eqb (mark_at b s.place) 0) (ltb (length b) (end_at b s.place)) _ _ f (sym q)
 
-  module _ (m n e : ℕ) (q : Ok (frame m n e) ≡ frame_of b s.place) where
-    found : Whole (ltb (length b) (s.place + 2)) (eqb (mark_at b s.place) 0) (ltb (length b) (end_at b s.place)) (mark_at b s.place) (count_at b s.place) (end_at b s.place) m n e
+  module _ (f : Frame) (q : Ok f ≡ frame_of b s.place) where
+    found : Whole (ltb (length b) (s.place + 2)) (eqb (mark_at b s.place) 0) (ltb (length b) (end_at b s.place)) (frame_at b s.place) f
     unfolding frame_of frame_from
-    found = whole_is _ _ _ _ _ _ _ _ _ (sym q)
+    found = whole_is _ _ _ _ _ (sym q)
 
-    pub step_opens : length b < 65536 → Opens b s.place m n e
+    -- the record stands where READ has come to
+    pub step_place : f.at ≡ s.place
+    step_place = ap (λ (g : Frame). g.at) found.is
+
+    pub step_opens : length b < 65536 → Opens b f
     unfolding end_at
     step_opens h =
         let z : end_at b s.place ≤ length b = ltb-false (length b) (end_at b s.place) found.uncut in
         let k : mark_at b s.place ≡ 0 → ⊥ = eqb-false (mark_at b s.place) 0 found.marked in
-        record { framed = record { known = omega arith; ends = z }; mark = found.mark; count = found.count; short = omega (arith, found.count, count_within b s.place); end = found.end }
+        rw found.is (record { size = h; framed = record { known = omega arith; ends = z }; mark = refl; count = refl; short = omega (arith, count_within b s.place); end = refl })
 
     pub step_settles : settle b s (fields b s.index s.depths s.number s.place 0 (total_at b s.place) s.named 0) ≡ step b s
     unfolding step
     step_settles = rw (found.long, found.marked, found.uncut)
-
--- an opened record by its own count, and by its own end
-pub opens_count : (b : List ℕ) (p m n e : ℕ) → Opens b p m n e → Opens b p m (count_at b p) e
-opens_count b p m n e o = record { framed = o.framed; mark = o.mark; count = refl; short = omega (arith, o.count, o.short); end = o.end }
-
-pub opens_end : (b : List ℕ) (p m n e : ℕ) → Opens b p m n e → Opens b p m n (end_at b p)
-opens_end b p m n e o = record { framed = o.framed; mark = o.mark; count = o.count; short = o.short; end = refl }

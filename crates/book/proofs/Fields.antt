@@ -8,8 +8,8 @@ use native.Mathlib.Omega.{arith}
 use lib.ListN.{length, get_or}
 use lib.Dec.{T, eqb}
 use borrow.Author.Tests.{eqb-false, lt-ltb, eq-eqb}
+use Rattle.std.proofs.lemmas.Bool.{false_from_ne_true}
 use Rattle.laws.specs.Table.{pick, true_false}
-use Rattle.book.proofs.Picks.{not_true}
 use Rattle.book.specs.Format.{word_at, in_range}
 use Rattle.book.specs.Read.{total_at, role_at, field_at, Verdict, good, bad, once, refer, judge, fields}
 use Rattle.book.specs.Index.{single}
@@ -77,7 +77,7 @@ module _ (b i j ds : List ℕ) (r p : ℕ) (x : Extends i j r p) (few : r < 4096
   module _ (fit : (k : ℕ) → k < total_at b p → Fits b i r p k) (lone : (k s l y : ℕ) → Names b j r k s l y → Uses b j r k y → ⊥) where
     -- what such a field names is not on the roll
     unnamed : (k : ℕ) (nm : List Bool) → k < total_at b p → Roll b j r k nm → single (names_at b p k) ≡ true → get_or nm (field_at b p k) false ≡ false
-    unnamed k nm l w o = not_true _ (λ t.
+    unnamed k nm l w o = false_from_ne_true _ (λ t.
         let u = w.used _ (λ z. true_false (sym t ∙ z)) in
         let e = x.new in
         lone k _ _ _ u.names (record { inside = rw e l; once = rw e o; is = rw e }))

@@ -12,7 +12,7 @@ use Rattle.std.specs.Prelude.{Ok, Err}
 use Rattle.laws.specs.Table.{pick}
 use Rattle.book.specs.Format.{Fields, Small, layout_of, total_of, role_of}
 use Rattle.book.specs.Read.{mark_at, layout_at, count_in, count_at, total_at, end_at, role_at}
-use Rattle.book.specs.Ready.{frame, frame_from}
+use Rattle.book.specs.Ready.{frame_at, frame_from}
 use Rattle.book.specs.declared.fault.Fault.TheVariants.{Cut}
 use Rattle.book.proofs.Layouts.{groups_fit, small_of}
 
@@ -49,7 +49,7 @@ module _ (b : List ℕ) (p : ℕ) where
   unfolding frame_from
   cut_frame h = rw (lt-ltb _ _ h)
 
-  pub whole_frame : end_at b p ≤ length b → Ok (frame (mark_at b p) (count_at b p) (end_at b p)) ≡ frame_from b p
+  pub whole_frame : end_at b p ≤ length b → Ok (frame_at b p) ≡ frame_from b p
   unfolding frame_from
   whole_frame h = rw (le-ltb _ _ h)
 

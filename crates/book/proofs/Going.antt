@@ -4,7 +4,7 @@ use Rattle.std.specs.declared.result.Result.{Result}
 use Rattle.std.specs.declared.result.Result.TheVariants.{Ok, Err}
 use Prim.Native.Nat.{ℕ, suc, ◌+◌, ◌-◌, ◌≤◌, ◌<◌}
 use mathlib.Core.Path.{◌≡◌, refl, sym, ap, subst, ◌∙◌}
-use mathlib.Core.Bool.{true, false, Bool}
+use mathlib.Core.Bool.{true, false}
 use mathlib.Core.List.{List}
 use native.Mathlib.Omega.{arith}
 use lib.Dec.{T, ltb, ltb→lt}
@@ -19,14 +19,19 @@ use Rattle.book.specs.Ready.{Ready, Chained, Carried, moved_of, outcome_of}
 use Rattle.book.specs.declared.fault.Fault.{Fault}
 use Rattle.book.specs.declared.fault.Fault.TheVariants.{Records, Size}
 use Rattle.book.specs.declared.fault.Refusal.{Refusal}
+use Rattle.book.specs.declared.read.Reader.{Reader}
 use Rattle.book.proofs.Course.{over, onward, halts, full}
 use Rattle.book.proofs.Moves.{moves}
 
+-- READ's state with these rows, at record r at p
+abbrev pub comes : Reader → ℕ → ℕ → State
+comes s p r = state p r s.index s.named s.depths
+
 -- READ has come to record r at p with these rows, and what it will answer from here is o
-pub record Going (b : List ℕ) (o : Outcome) (i : List ℕ) (nm : List Bool) (ds cs : List ℕ) (p r : ℕ) : Type 0 where
-  pub left : records (4096 - r) b (state p r i nm ds) ≡ o
-  pub ready : Ready b i nm ds r
-  pub chained : Chained b i cs r
+pub record Going (b : List ℕ) (o : Outcome) (s : Reader) (p r : ℕ) : Type 0 where
+  pub left : records (4096 - r) b (comes s p r) ≡ o
+  pub ready : Ready b s.index s.named s.depths r
+  pub chained : Chained b s r
   pub inside : p ≤ length b
   pub begun : 0 < p → 0 < r
 
@@ -60,25 +65,25 @@ err_before Q (Err f) w h u e =
     (f, refl, subst (λ (k : Refusal). Q f k) z p.2)
 
 -- the code's answer on a record, beside the rows that it left
-module _ (b : List ℕ) (o : Outcome) (i : List ℕ) (nm : List Bool) (ds cs : List ℕ) (p r : ℕ) (g : Going b o i nm ds cs p r) (h : p < length b) (l : r < 4096)
-    (v : Result ℕ Fault) (i' : List ℕ) (nm' : List Bool) (ds' cs' : List ℕ) (is : (moved_of v r i' nm' ds' ≡ step b (state p r i nm ds)) × Carried v b i' cs' r) where
+module _ (b : List ℕ) (o : Outcome) (s : Reader) (p r : ℕ) (g : Going b o s p r) (h : p < length b) (l : r < 4096)
+    (v : Result ℕ Fault) (t : Reader) (is : (moved_of v r t.index t.named t.depths ≡ step b (comes s p r)) × Carried v b t r) where
   pub going_bad : (f : Fault) → v ≡ Err f → refused (refusal f r) ≡ o
-  going_bad f e = stopped b (state p r i nm ds) r h l f (sym (ap (λ (u : Result ℕ Fault). moved_of u r i' nm' ds') e) ∙ is.0) ∙ g.left
+  going_bad f e = stopped b (comes s p r) r h l f (sym (ap (λ (u : Result ℕ Fault). moved_of u r t.index t.named t.depths) e) ∙ is.0) ∙ g.left
 
   module _ (e : ℕ) (at : v ≡ Ok e) where
-    moved : on (state e (r + 1) i' nm' ds') ≡ step b (state p r i nm ds)
-    moved = sym (ap (λ (u : Result ℕ Fault). moved_of u r i' nm' ds') at) ∙ is.0
+    moved : on (comes t e (r + 1)) ≡ step b (comes s p r)
+    moved = sym (ap (λ (u : Result ℕ Fault). moved_of u r t.index t.named t.depths) at) ∙ is.0
 
     pub going_further : p < e
-    going_further = (moves b (state p r i nm ds) (state e (r + 1) i' nm' ds') g.ready l (sym moved)).further
+    going_further = (moves b (comes s p r) (comes t e (r + 1)) g.ready l (sym moved)).further
 
-    pub going_on_lem : Going b o i' nm' ds' cs' e (r + 1)
+    pub going_on_lem : Going b o t e (r + 1)
     going_on_lem =
-        let w = moves b (state p r i nm ds) (state e (r + 1) i' nm' ds') g.ready l (sym moved) in
+        let w = moves b (comes s p r) (comes t e (r + 1)) g.ready l (sym moved) in
         record {
-          left = gone_on b (state p r i nm ds) r h l _ moved ∙ g.left;
+          left = gone_on b (comes s p r) r h l _ moved ∙ g.left;
           ready = w.ready;
-          chained = subst (λ (u : Result ℕ Fault). Carried u b i' cs' r) at is.1;
+          chained = subst (λ (u : Result ℕ Fault). Carried u b t r) at is.1;
           inside = w.inside;
           begun = λ z. omega arith;
         }

@@ -1,9 +1,10 @@
 -- Tests and choices: which of two was picked, where only one can be the answer; and READ's answers told apart.
 -- Assumes nothing.
 use Prim.Native.Nat.{ℕ}
-use mathlib.Core.Bool.{Bool, true, false, not}
-use mathlib.Core.Path.{◌≡◌, refl, sym}
+use mathlib.Core.Bool.{Bool, true, false}
+use mathlib.Core.Path.{◌≡◌, refl}
 use mathlib.Core.List.{List}
+use Rattle.std.proofs.lemmas.Bool.{false_from_ne_true}
 use Rattle.laws.specs.Table.{pick, both, true_false}
 use Rattle.book.specs.Read.{good, bad, State, on, stop, done, refused}
 use Rattle.book.specs.declared.fault.Fault.{Fault}
@@ -24,17 +25,9 @@ pub both_true : (s t : Bool) → both s t ≡ true → (s ≡ true) × (t ≡ tr
 both_true true t e = (refl, e)
 both_true false t e = absurd (let z : true ≡ false = cc in true_false z)
 
--- a test that cannot hold fails; two that cannot hold together
-pub not_true : (t : Bool) → (t ≡ true → ⊥) → t ≡ false
-not_true true h = absurd (h refl)
-not_true false h = refl
-
-pub not_false : (t : Bool) → not t ≡ true → t ≡ false
-not_false true e = absurd (true_false (sym e))
-not_false false e = refl
-
+-- two tests that cannot hold together
 pub both_false : (s t : Bool) → (s ≡ true → t ≡ true → ⊥) → both s t ≡ false
-both_false true t h = not_true t (h refl)
+both_false true t h = false_from_ne_true t (h refl)
 both_false false t h = refl
 
 -- a refusal is no success

@@ -6,5 +6,6 @@ pub mod Text
 pub mod Ready
 pub mod Valid
 pub mod Stands
+pub mod Books
 pub mod Tree
 pub mod Listing

@@ -15,13 +15,14 @@ pub record Framed (b : List ℕ) (p : ℕ) : Type 0 where
   pub known : 0 < mark_at b p
   pub ends : end_at b p ≤ length b
 
--- its mark, how often its group stands and where it ends are these
-pub record Opens (b : List ℕ) (p m n e : ℕ) : Type 0 where
-  pub framed : Framed b p
-  pub mark : m ≡ mark_at b p
-  pub count : n ≡ count_at b p
-  pub short : n < 65536
-  pub end : e ≡ end_at b p
+-- the frame f is that of a record with a known mark that ends inside the book, and READ takes a book of that size
+pub record Opens (b : List ℕ) (f : Frame) : Type 0 where
+  pub size : length b < 65536
+  pub framed : Framed b f.at
+  pub mark : f.mark ≡ mark_at b f.at
+  pub count : f.count ≡ count_at b f.at
+  pub short : f.count < 65536
+  pub end : f.end ≡ end_at b f.at
 
 -- the first r records, whose places the index has, lie in the book
 pub record Rows (b i : List ℕ) (r : ℕ) : Type 0 where
@@ -36,52 +37,60 @@ pub record Ready (b i : List ℕ) (nm : List Bool) (ds : List ℕ) (r : ℕ) : T
   pub noted : length nm ≡ 4096
   pub deep : length ds ≡ 4096
 
--- where the chain of the type at p begins in the row of chains, behind an entry for each record: its mark and fields say which
+-- which of the 1,024 chains the type at p is in: its mark and fields say it
 unfoldable pub chain_of : List ℕ → ℕ → ℕ
-chain_of b p = pick (eqb (mark_at b p) TU) 4096 (4096 + (67 * word_at b (p + 2) + 2 * word_at b (p + 4) + mark_at b p) % 1024)
+chain_of b p = pick (eqb (mark_at b p) TU) 0 ((67 * word_at b (p + 2) + 2 * word_at b (p + 4) + mark_at b p) % 1024)
 
--- a chain that goes on at n comes to record j: n is a record's number and one more, that record's entry has the next n, and 0 ends it
-pub data Reaches (cs : List ℕ) (j : ℕ) : ℕ → Type 0 where
-  here : {n : ℕ} → n ≡ j + 1 → Reaches cs j n
-  later : {n : ℕ} → 0 < n → Reaches cs j (get_or cs (n - 1) 0) → Reaches cs j n
+-- a chain that goes on at n comes to record j: n is a record's number and one more, that record's link is the next n, and 0 ends it
+pub data Reaches (ls : List ℕ) (j : ℕ) : ℕ → Type 0 where
+  here : {n : ℕ} → n ≡ j + 1 → Reaches ls j n
+  later : {n : ℕ} → 0 < n → Reaches ls j (get_or ls (n - 1) 0) → Reaches ls j n
 
 -- each type among the first r records is in its chain, and chains lead to earlier records only
-pub record Chained (b i cs : List ℕ) (r : ℕ) : Type 0 where
-  pub long : length cs ≡ 5120
-  pub falls : (j : ℕ) → j < 4096 → get_or cs j 0 ≤ j
-  pub heads : (h : ℕ) → 4096 ≤ h → h < 5120 → get_or cs h 0 ≤ r
-  pub reached : (j : ℕ) → j < r → kind_at b (get_or i j 0) ≡ TYPE → Reaches cs j (get_or cs (chain_of b (get_or i j 0)) 0)
-
--- the row of chains once record r, at p, has its place: a type is the newest of its chain
-unfoldable pub joined : List ℕ → List ℕ → ℕ → ℕ → List ℕ
-joined b cs r p = pick (eqb (kind_at b p) TYPE) (set (set cs r (get_or cs (chain_of b p) 0)) (chain_of b p) (r + 1)) cs
+pub record Chained (b : List ℕ) (s : Reader) (r : ℕ) : Type 0 where
+  pub headed : length s.heads ≡ 1024
+  pub linked : length s.links ≡ 4096
+  pub begins : (h : ℕ) → get_or s.heads h 0 ≤ r
+  pub falls : (j : ℕ) → get_or s.links j 0 ≤ j
+  pub reached : (j : ℕ) → j < r → kind_at b (get_or s.index j 0) ≡ TYPE → Reaches s.links j (get_or s.heads (chain_of b (get_or s.index j 0)) 0)
 
 -- READ's rows; before the first record they are zero
-abbrev pub reader : List ℕ → List Bool → List ℕ → List ℕ → Reader
-reader i nm ds cs = record { index = i; named = nm; depths = ds; chains = cs }
+abbrev pub reader : List ℕ → List Bool → List ℕ → List ℕ → List ℕ → Reader
+reader i nm ds hs ls = record { index = i; named = nm; depths = ds; heads = hs; links = ls }
 
 abbrev pub nothing : Reader
-nothing = reader (replicate 4096 0) (replicate 4096 false) (replicate 4096 0) (replicate 5120 0)
+nothing = reader (replicate 4096 0) (replicate 4096 false) (replicate 4096 0) (replicate 1024 0) (replicate 4096 0)
+
+-- the heads and the links of chains once record r, at p, has its place: a type is the newest of its chain, and leads on to the one that was
+unfoldable pub heads_with : List ℕ → List ℕ → ℕ → ℕ → List ℕ
+heads_with b hs r p = pick (eqb (kind_at b p) TYPE) (set hs (chain_of b p) (r + 1)) hs
+
+unfoldable pub links_with : List ℕ → List ℕ → List ℕ → ℕ → ℕ → List ℕ
+links_with b hs ls r p = pick (eqb (kind_at b p) TYPE) (set ls r (get_or hs (chain_of b p) 0)) ls
+
+abbrev pub joined : List ℕ → Reader → ℕ → ℕ → Reader
+joined b s r p = reader s.index s.named s.depths (heads_with b s.heads r p) (links_with b s.heads s.links r p)
 
 -- judging a field changes no row but the one of what was named
 pub record OthersKept (s t : Reader) : Type 0 where
   pub index : t.index ≡ s.index
   pub depths : t.depths ≡ s.depths
-  pub chains : t.chains ≡ s.chains
+  pub heads : t.heads ≡ s.heads
+  pub links : t.links ≡ s.links
   pub named : length t.named ≡ length s.named
 
 -- an answer that goes on leaves record r in the chains too
-abbrev pub Carried : Result ℕ Fault → List ℕ → List ℕ → List ℕ → ℕ → Type 0
-Carried (Ok p) b i cs r = Chained b i cs (r + 1)
-Carried (Err f) b i cs r = Unit {0}
+abbrev pub Carried : Result ℕ Fault → List ℕ → Reader → ℕ → Type 0
+Carried (Ok p) b s r = Chained b s (r + 1)
+Carried (Err f) b s r = Unit {0}
 
--- a record's mark, how often its group stands and where it ends
-abbrev pub frame : ℕ → ℕ → ℕ → Frame
-frame m n e = record { mark = m; count = n; end = e }
+-- the frame of the record at p: where it stands, its mark, how often its group stands and where it ends
+abbrev pub frame_at : List ℕ → ℕ → Frame
+frame_at b p = record { at = p; mark = mark_at b p; count = count_at b p; end = end_at b p }
 
 -- what is known of the record at p once its mark is known; once its letters are read
 unfoldable pub frame_from : List ℕ → ℕ → Result Frame Fault
-frame_from b p = pick (ltb (length b) (end_at b p)) (Err Cut) (Ok (frame (mark_at b p) (count_at b p) (end_at b p)))
+frame_from b p = pick (ltb (length b) (end_at b p)) (Err Cut) (Ok (frame_at b p))
 
 unfoldable pub frame_of : List ℕ → ℕ → Result Frame Fault
 frame_of b p = pick (ltb (length b) (p + 2)) (Err Cut) (pick (eqb (mark_at b p) 0) (Err Mark) (frame_from b p))

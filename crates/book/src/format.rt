@@ -2,8 +2,8 @@
 ghost use Rattle.std.specs.Prelude.{◌≡◌, ◌<◌, ◌≤◌};
 ghost use Rattle.book.specs.Format.{mark_of, kind_of, plan, laid, layout_of, role_of, total_of, Small, within, power_in, in_range};
 
-// Marks, numbered from 1 in the order of document 01's table; 0 is no mark. They are numbers and no enum: document 01 has the reader decide
-// by mark over number cases with ranges.
+// Marks, numbered from 1 in the order of document 01's table. They are numbers and no enum: document 01 has the reader decide by mark over
+// number cases with ranges. 0 is no mark, and no Option says so: `mark_at` promises a number of any record that begins.
 pub const TU: u8 = 1;
 
 pub const TS: u8 = 2;
@@ -179,13 +179,13 @@ pub fn kind_of(mark: u8) -> u8
 // The roles of a record's fields: the head, then a group as often as the last of the head says, then
 // one more unless `last` is 0, which is no role: `role_of` would have to give one for `None` too.
 #[derive(Clone, Copy)]
-pub struct Layout {
-    pub head: &'static [u8],
-    pub each: &'static [u8],
+pub struct Layout<'a> {
+    pub head: &'a [u8],
+    pub each: &'a [u8],
     pub last: u8,
 }
 
-fn lay(head: &'static [u8], each: &'static [u8], last: u8) -> Layout
+fn lay<'a>(head: &'a [u8], each: &'a [u8], last: u8) -> Layout<'a>
     ensures { laid result ≡ plan head.now each.now last }
 {
     Layout { head, each, last }
@@ -193,7 +193,7 @@ fn lay(head: &'static [u8], each: &'static [u8], last: u8) -> Layout
 
 // The layout of a mark's fields.
 #[tactic(auto, unfolding(crate::specs::Format::layout_of))]
-pub fn layout_of(mark: u8) -> Layout
+pub fn layout_of(mark: u8) -> Layout<'static>
     ensures { laid result ≡ layout_of mark }
 {
     match mark {
@@ -237,7 +237,7 @@ pub fn layout_of(mark: u8) -> Layout
 pub fn role_of(l: Layout, n: usize, k: usize) -> u8
     requires small { Small (laid l) }
     requires n_in_range { n < 65536 }
-    ensures { result ≡ role_of (laid l) n k }
+    ensures { result ≡ role_of (laid l.entry) n k }
 {
     let heads = l.head.len();
     let eachs = l.each.len();
@@ -255,7 +255,7 @@ pub fn role_of(l: Layout, n: usize, k: usize) -> u8
 pub fn total_of(l: Layout, n: usize) -> usize
     requires small { Small (laid l) }
     requires n_in_range { n < 65536 }
-    ensures { result ≡ total_of (laid l) n }
+    ensures { result ≡ total_of (laid l.entry) n }
 {
     l.head.len() + n * l.each.len() + usize::from(l.last != 0)
 }

@@ -1,8 +1,8 @@
 // READ: record by record, in document 01's order of judgement.
 ghost use Rattle.std.specs.Prelude.{◌≡◌, Bool, List, ℕ, ◌+◌, ◌*◌, ◌-◌, ◌≤◌, ◌<◌, length};
 ghost use Rattle.book.specs.Format.{TYPE, kind_of, laid};
-ghost use Rattle.book.specs.Read.{mark_at, kind_at, count_in, count_at, total_at, end_at, role_at, names, once, refer, judge, fields, alike, repeats, state, settle, step, is_unnamed, loose, records, read_of, index_of, good};
-ghost use Rattle.book.specs.Ready.{Framed, Opens, Rows, Ready, chain_of, Chained, joined, Carried, frame_from, frame_of, named_of, verdict_of, moved_of, outcome_of, reader, nothing, OthersKept};
+ghost use Rattle.book.specs.Read.{mark_at, kind_at, count_in, total_at, role_at, names, once, refer, judge, fields, alike, repeats, state, settle, step, is_unnamed, loose, records, read_of, index_of, good};
+ghost use Rattle.book.specs.Ready.{Framed, Opens, Rows, Ready, chain_of, Chained, joined, Carried, frame_from, frame_of, named_of, verdict_of, moved_of, outcome_of, nothing, OthersKept};
 ghost use Rattle.book.specs.Faults.{refusal};
 
 use crate::fault::{Fault, Refusal};
@@ -12,15 +12,17 @@ use crate::format::{
 };
 use crate::word::word;
 
-// A record's mark, how often its group stands, and where it ends.
+// What READ knows of a record: where it stands, its mark, how often its group stands, and where it ends.
 #[derive(Clone, Copy)]
 struct Frame {
+    at: usize,
     mark: u8,
     count: usize,
     end: usize,
 }
 
-// READ's answer, and where each record begins.
+// READ's answer, and where each record begins. They stand side by side, and not in a case of the answer: the index is promised after a refusal
+// too, zeros throughout.
 #[derive(Clone, Copy)]
 pub struct Indexed {
     pub answer: Result<u16, Refusal>,
@@ -31,7 +33,7 @@ pub struct Indexed {
 #[tactic(auto, unfolding(crate::specs::Read::count_in))]
 fn count_in(book: &[u8], at: usize, layout: Layout) -> usize
     requires { at + 2 + 2 * length layout.head.now ≤ length book.now }
-    ensures { (result ≡ count_in book.now at (laid layout)) × (result < 65536) }
+    ensures { (result ≡ count_in book.now at (laid layout.entry)) × (result < 65536) }
 {
     if layout.each.is_empty() {
         0
@@ -41,6 +43,7 @@ fn count_in(book: &[u8], at: usize, layout: Layout) -> usize
 }
 
 // CUT by the record's length, which its count says even where that is out of range.
+#[tactic(auto, using(crate::proofs::Frames::small_is, crate::proofs::Frames::total_fits))]
 fn frame_from(book: &[u8], at: usize, mark: u8) -> Result<Frame, Fault>
     requires at_fits { at + 2 ≤ length book.now }
     requires book_in_range { length book.now < 65536 }
@@ -56,7 +59,12 @@ fn frame_from(book: &[u8], at: usize, mark: u8) -> Result<Frame, Fault>
     if book.len() < end {
         return Err(Fault::Cut);
     }
-    Ok(Frame { mark, count, end })
+    Ok(Frame {
+        at,
+        mark,
+        count,
+        end,
+    })
 }
 
 // CUT if one byte is left, then MARK, then CUT.
@@ -111,35 +119,32 @@ fn name_once(named: &mut [bool], x: usize, deep: u8) -> Result<u8, Fault>
 }
 
 // Whether two types have the same letters and the same fields: none, or two.
-fn is_alike(book: &[u8], at: usize, mark: u8, other: usize) -> bool
-    requires framed { Framed book.now at }
+#[tactic(auto, using(crate::proofs::Alikes::both_within, crate::proofs::Frames::mark_within))]
+fn is_alike(book: &[u8], frame: Frame, other: usize) -> bool
+    requires opens { Opens book.now frame }
+    requires kind_of_is { kind_of frame.mark ≡ TYPE }
     requires framed_other { Framed book.now other }
-    requires mark_is { mark ≡ mark_at book.now at }
-    requires kind_of_is { kind_of mark ≡ TYPE }
-    requires book_in_range { length book.now < 65536 }
-    ensures { result ≡ alike book.now at other }
+    ensures { result ≡ alike book.now frame.at other }
 {
-    word(book, at) == word(book, other)
-        && (mark == TU
-            || (word(book, at + 2) == word(book, other + 2)
-                && word(book, at + 4) == word(book, other + 4)))
+    word(book, frame.at) == word(book, other)
+        && (frame.mark == TU
+            || (word(book, frame.at + 2) == word(book, other + 2)
+                && word(book, frame.at + 4) == word(book, other + 4)))
 }
 
-// Where a type's chain begins in the row of chains, behind an entry for each record. Alike types have one chain; the factors spread the others.
-#[tactic(auto, unfolding(crate::specs::Ready::chain_of, crate::specs::Read::end_at))]
-fn chain_of(book: &[u8], at: usize, mark: u8) -> usize
-    requires framed { Framed book.now at }
-    requires mark_is { mark ≡ mark_at book.now at }
-    requires kind_of_is { kind_of mark ≡ TYPE }
-    requires book_in_range { length book.now < 65536 }
-    ensures { (result ≡ chain_of book.now at) × (result < 5120) }
+// Which of the 1,024 chains a type is in. Alike types are in one chain; the factors spread the others.
+#[tactic(auto, using(crate::proofs::Alikes::two_within), unfolding(crate::specs::Ready::chain_of, crate::specs::Read::end_at))]
+fn chain_of(book: &[u8], frame: Frame) -> usize
+    requires opens { Opens book.now frame }
+    requires kind_of_is { kind_of frame.mark ≡ TYPE }
+    ensures { (result ≡ chain_of book.now frame.at) × (result < 1024) }
 {
-    if mark == TU {
-        return 4096;
+    if frame.mark == TU {
+        return 0;
     }
-    let first = word(book, at + 2) as usize;
-    let second = word(book, at + 4) as usize;
-    4096 + (67 * first + 2 * second + (mark as usize)) % 1024
+    let first = word(book, frame.at + 2) as usize;
+    let second = word(book, frame.at + 4) as usize;
+    (67 * first + 2 * second + (frame.mark as usize)) % 1024
 }
 
 // Whether an expression or statement was never named.
@@ -162,15 +167,17 @@ fn refusal(fault: Fault, r: usize) -> Refusal
     }
 }
 
-// What READ knows of the records so far: where each begins, which expressions and statements were
-// named, and how deep each is. A chain of types begins behind an entry for each record; a number in
-// it is a record's and one more, and 0 ends it: the memory is fixed, and an `Option` would double it.
+// What READ knows of the records so far: where each begins, which expressions and statements were named, how deep each is; and the chains of
+// types. A chain begins at its head, and each type's link leads on to an earlier one. Both hold a record's number and one more, and 0 ends a
+// chain: the memory is fixed, and an `Option` would double it. The book is no field: these rows are lent by `&mut`, and each promise would
+// have to add that the book among them stays.
 #[derive(Drop)]
 struct Reader {
     index: [u16; 4096],
     named: [bool; 4096],
     depths: [u8; 4096],
-    chains: [u16; 5120],
+    heads: [u16; 1024],
+    links: [u16; 4096],
 }
 
 impl Reader {
@@ -182,12 +189,13 @@ impl Reader {
             index: [0; 4096],
             named: [false; 4096],
             depths: [0; 4096],
-            chains: [0; 5120],
+            heads: [0; 1024],
+            links: [0; 4096],
         }
     }
 
     // What record r names is earlier and of the kind, and no expression or statement again.
-    #[tactic(auto, unfolding(crate::specs::Read::refer, crate::specs::Read::deeper))]
+    #[tactic(auto, using(crate::proofs::Frames::mark_within), unfolding(crate::specs::Read::refer, crate::specs::Read::deeper))]
     fn refer_to(&mut self, book: &[u8], r: usize, kind: u8, x: usize, deep: u8) -> Result<u8, Fault>
         requires { Ready book.now self.old.index self.old.named self.old.depths r }
         ensures verdict { verdict_of result self.new.named ≡ refer book.now self.old.index self.old.depths r kind x self.old.named deep }
@@ -231,95 +239,85 @@ impl Reader {
     }
 
     // A record's fields, from left to right.
-    fn judge_fields(
-        &mut self,
-        book: &[u8],
-        r: usize,
-        at: usize,
-        mark: u8,
-        count: usize,
-    ) -> Result<u8, Fault>
+    #[tactic(auto, using(crate::proofs::Frames::small_is))]
+    fn judge_fields(&mut self, book: &[u8], r: usize, frame: Frame) -> Result<u8, Fault>
         requires ready { Ready book.now self.old.index self.old.named self.old.depths r }
-        requires opens { Opens book.now at mark count (end_at book.now at) }
-        ensures verdict { verdict_of result self.new.named ≡ fields book.now self.old.index self.old.depths r at 0 (total_at book.now at) self.old.named 0 }
+        requires opens { Opens book.now frame }
+        ensures verdict { verdict_of result self.new.named ≡ fields book.now self.old.index self.old.depths r frame.at 0 (total_at book.now frame.at) self.old.named 0 }
         ensures others { OthersKept self.old self.new }
     {
-        let layout = layout_of(mark);
-        let total = total_of(layout, count);
+        let layout = layout_of(frame.mark);
+        let total = total_of(layout, frame.count);
         let mut deep = 0;
         for k in 0..total {
-            let role = role_of(layout, count, k);
-            deep = self.judge_field(book, r, at, k, role, deep)?;
+            let role = role_of(layout, frame.count, k);
+            deep = self.judge_field(book, r, frame.at, k, role, deep)?;
         }
         Ok(deep)
     }
 
     // Whether a type is alike one of the first r records: along its chain, from the newest back.
-    fn is_repeated(&self, book: &[u8], r: usize, at: usize, mark: u8) -> bool
+    #[tactic(auto, using(crate::proofs::Alikes::repeats_not, crate::proofs::Chains::walk_none, crate::proofs::Chains::walk_found))]
+    fn is_repeated(&self, book: &[u8], r: usize, frame: Frame) -> bool
         requires rows { Rows book.now self.now.index r }
-        requires framed { Framed book.now at }
-        requires mark_is { mark ≡ mark_at book.now at }
-        requires chained { Chained book.now self.now.index self.now.chains r }
-        ensures { result ≡ repeats book.now self.now.index r at }
+        requires opens { Opens book.now frame }
+        requires chained { Chained book.now self.now r }
+        ensures { result ≡ repeats book.now self.now.index r frame.at }
     {
-        if kind_of(mark) != TYPE {
+        if kind_of(frame.mark) != TYPE {
             return false;
         }
-        let mut j = self.chains[chain_of(book, at, mark)] as usize;
+        let mut j = self.heads[chain_of(book, frame)] as usize;
         // Not a `for`: a chain says itself where it goes on.
         while 0 < j {
-            if is_alike(book, at, mark, self.index[j - 1] as usize) {
+            if is_alike(book, frame, self.index[j - 1] as usize) {
                 return true;
             }
-            j = self.chains[j - 1] as usize;
+            j = self.links[j - 1] as usize;
         }
         false
     }
 
     // A type becomes the newest of its chain, and leads on to the one that was.
-    #[tactic(auto, unfolding(crate::specs::Ready::joined, crate::specs::Read::kind_at))]
-    fn join_chain(&mut self, book: &[u8], r: usize, at: usize, mark: u8)
+    #[tactic(auto, unfolding(crate::specs::Ready::heads_with, crate::specs::Ready::links_with, crate::specs::Read::kind_at))]
+    fn join_chain(&mut self, book: &[u8], r: usize, frame: Frame)
         requires r_in_range { r < 4096 }
-        requires framed { Framed book.now at }
-        requires mark_is { mark ≡ mark_at book.now at }
-        requires book_in_range { length book.now < 65536 }
-        ensures { self.new ≡ reader self.old.index self.old.named self.old.depths (joined book.now self.old.chains r at) }
+        requires opens { Opens book.now frame }
+        ensures { self.new ≡ joined book.now self.old r frame.at }
     {
-        if kind_of(mark) == TYPE {
-            let chain = chain_of(book, at, mark);
-            self.chains[r] = self.chains[chain];
-            self.chains[chain] = (r + 1) as u16;
+        if kind_of(frame.mark) == TYPE {
+            let chain = chain_of(book, frame);
+            self.links[r] = self.heads[chain];
+            self.heads[chain] = (r + 1) as u16;
         }
     }
 
     // A type that is new, a depth that is not too great: the record takes its place.
-    #[tactic(auto, unfolding(crate::specs::Read::settle))]
+    #[tactic(auto, using(crate::proofs::Frames::mark_within), unfolding(crate::specs::Read::settle))]
     fn settle_record(
         &mut self,
         book: &[u8],
         r: usize,
-        at: usize,
-        mark: u8,
+        frame: Frame,
         deep: u8,
-        end: usize,
     ) -> Result<usize, Fault>
         requires rows { Rows book.now self.old.index r }
         requires r_in_range { r < 4096 }
-        requires opens { Opens book.now at mark (count_at book.now at) end }
-        requires chained { Chained book.now self.old.index self.old.chains r }
-        ensures moved { (m : List Bool) → moved_of result r self.new.index self.new.named self.new.depths ≡ settle book.now (state at r self.old.index m self.old.depths) (good self.old.named deep) }
-        ensures carried { Carried result book.now self.new.index self.new.chains r }
+        requires opens { Opens book.now frame }
+        requires chained { Chained book.now self.old r }
+        ensures moved { (m : List Bool) → moved_of result r self.new.index self.new.named self.new.depths ≡ settle book.now (state frame.at r self.old.index m self.old.depths) (good self.old.named deep) }
+        ensures carried { Carried result book.now self.new r }
     {
-        if self.is_repeated(book, r, at, mark) {
+        if self.is_repeated(book, r, frame) {
             return Err(Fault::Twice);
         }
         if deep == 255 {
             return Err(Fault::Depth);
         }
-        self.index[r] = at as u16;
+        self.index[r] = frame.at as u16;
         self.depths[r] = deep + 1;
-        self.join_chain(book, r, at, mark);
-        Ok(end)
+        self.join_chain(book, r, frame);
+        Ok(frame.end)
     }
 
     // One record.
@@ -327,16 +325,17 @@ impl Reader {
         requires ready { Ready book.now self.old.index self.old.named self.old.depths r }
         requires r_in_range { r < 4096 }
         requires at_fits { at < length book.now }
-        requires chained { Chained book.now self.old.index self.old.chains r }
+        requires chained { Chained book.now self.old r }
         ensures moved { moved_of result r self.new.index self.new.named self.new.depths ≡ step book.now (state at r self.old.index self.old.named self.old.depths) }
-        ensures carried { Carried result book.now self.new.index self.new.chains r }
+        ensures carried { Carried result book.now self.new r }
     {
-        let Frame { mark, count, end } = frame_of(book, at)?;
-        let deep = self.judge_fields(book, r, at, mark, count)?;
-        self.settle_record(book, r, at, mark, deep, end)
+        let frame = frame_of(book, at)?;
+        let deep = self.judge_fields(book, r, frame)?;
+        self.settle_record(book, r, frame, deep)
     }
 
     // LOOSE: the first such before the last, else the last, if it is no expression.
+    #[tactic(auto, using(crate::proofs::Frames::mark_within))]
     fn judge_loose(&self, book: &[u8], count: usize) -> Result<u16, Refusal>
         requires rows { Rows book.now self.now.index count }
         requires count_in_range { 0 < count }
@@ -358,7 +357,7 @@ impl Reader {
     fn read_records(&mut self, book: &[u8]) -> Result<u16, Refusal>
         requires ready { Ready book.now self.old.index self.old.named self.old.depths 0 }
         requires book_fits { 0 < length book.now }
-        requires chained { Chained book.now self.old.index self.old.chains 0 }
+        requires chained { Chained book.now self.old 0 }
         ensures { outcome_of result self.new.index ≡ records 4096 book.now (state 0 0 self.old.index self.old.named self.old.depths) }
     {
         let mut at = 0;

@@ -7,5 +7,5 @@ pub fn word(book: &[u8], at: usize) -> u16
     requires { at + 1 < length book.now }
     ensures { result ≡ word_at book.now at }
 {
-    (book[at] as u16) + 256 * (book[at + 1] as u16)
+    u16::from_le_bytes([book[at], book[at + 1]])
 }

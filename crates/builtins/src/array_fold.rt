@@ -12,6 +12,7 @@ use named::node::{DROP, Nodes, TAKE};
 
 // How many nodes the fold of an array stores beyond the body: twelve for each power above the first, and for each one bit but the
 // top one's.
+#[tactic(auto, using(crate::proofs::Counts::counts_fit, crate::proofs::Counts::fold_nodes))]
 pub fn array_fold_nodes(size: u16) -> u16
     requires { (0 < size) × (size ≤ 256) }
     ensures { FoldNodes size result }
@@ -20,7 +21,8 @@ pub fn array_fold_nodes(size: u16) -> u16
     (12 * (top(n) + n.count_ones() - 1)) as u16
 }
 
-// Two folds, one after the other.
+// Two folds, one after the other. A list's fold and a hash's add of both parts are alike (`recipes`, raw_hash.rt), but each stores its
+// nodes in an order of its own, as the original does.
 fn f_array_fold(nodes: &mut Nodes, place: u16, left: u16, right: u16) -> Result<u16, Refusal>
     ensures { Done nodes.old (f_array_fold place left right) result nodes.new }
 {
@@ -35,6 +37,7 @@ fn f_array_fold(nodes: &mut Nodes, place: u16, left: u16, right: u16) -> Result<
 }
 
 // The fold of n elements by the powers: the top power of n on the right, what is left of n on the left.
+#[tactic(auto, using(crate::proofs::Folds::top_below, crate::proofs::Folds::top_taken, crate::proofs::Folds::tree_one))]
 fn tree_fold(nodes: &mut Nodes, place: u16, powers: &[u16], n: u32) -> Result<u16, Refusal>
     requires { (0 < n) × ((n < 2 ^ length powers.now) × (n ≤ 256)) }
     ensures { Done nodes.old (tree_fold n place powers.now n) result nodes.new }

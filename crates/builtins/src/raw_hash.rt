@@ -30,7 +30,9 @@ fn add_both(nodes: &mut Nodes, place: u16, left: u16, right: u16) -> Result<u16,
     applied(nodes, place, right, middle, second)
 }
 
-// From a context and a part of the row to the context with that part added.
+// From a context and a part of the row to the context with that part added. `named`'s join is balanced so too, but over nodes that are
+// there already: a function for both would be lent three closures that store nodes, each with a promise of what the table then holds.
+#[tactic(auto, using(named::proofs::Storing::then, named::proofs::Storing::halt, named::proofs::Storing::handed, crate::proofs::Hashes::add_none, crate::proofs::Hashes::add_one, crate::proofs::Hashes::add_more))]
 fn add_tuple(nodes: &mut Nodes, place: u16, widths: &[u16]) -> Result<u16, Refusal>
     requires { (length widths.now ≤ 256) × (Widths (length widths.now) widths.now) }
     ensures { Done nodes.old (add_row place widths.now) result nodes.new }

@@ -53,6 +53,7 @@ type FourBits = Twice<TwoBits>;
 type Byte = Twice<FourBits>;
 
 // The bit n, if the side at cell x holds the unit.
+#[tactic(auto, using(crate::proofs::Words::side_unit, crate::proofs::Words::side_other))]
 fn bit_of(cells: &[u8], x: u16, n: u8) -> Option<u8>
     ensures { result ≡ unit_word cells.now (left_at cells.now x) n }
 {
@@ -82,6 +83,7 @@ impl Width for Bit {
         2
     }
 
+    #[tactic(auto, using(crate::proofs::Words::bit_none))]
     fn at(cells: &[u8], x: u16) -> Option<u8> {
         match kind_at(cells, x) {
             LEFT => bit_of(cells, x, 0),
@@ -98,11 +100,13 @@ impl Width for Bit {
 impl<H: Width> Width for Twice<H> {
     ghost k = { suc H.k };
 
+    #[tactic(auto, using(crate::proofs::Words::twice_span, crate::proofs::Words::span_fits))]
     fn span() -> u8 {
         let half = H::span();
         half * half
     }
 
+    #[tactic(auto, using(crate::proofs::Words::word_left, crate::proofs::Words::word_right, crate::proofs::Words::halves_fit))]
     fn at(cells: &[u8], x: u16) -> Option<u8> {
         if kind_at(cells, x) != PAIR {
             return None;
@@ -121,6 +125,7 @@ impl<H: Width> Width for Twice<H> {
 }
 
 // The word of 2 ^ k bits at cell x.
+#[tactic(auto, using(crate::proofs::Words::word_wide))]
 fn word_at(cells: &[u8], x: u16, k: usize) -> Option<u8>
     requires { k ≤ 3 }
     ensures { Worded cells.now k x result }
@@ -134,6 +139,7 @@ fn word_at(cells: &[u8], x: u16, k: usize) -> Option<u8>
 }
 
 // The two words of 2 ^ k bits in the pair at cell x.
+#[tactic(auto, using(crate::proofs::Words::words_other, crate::proofs::Words::words_left, crate::proofs::Words::words_both))]
 fn words_at(cells: &[u8], x: u16, k: usize) -> Option<(u8, u8)>
     requires { k ≤ 3 }
     ensures { Paired cells.now k x result }
@@ -146,7 +152,8 @@ fn words_at(cells: &[u8], x: u16, k: usize) -> Option<(u8, u8)>
     Some((a, b))
 }
 
-// Stores the cells of the number v as a word of 2 ^ k bits.
+// Stores the cells of the number v as a word of 2 ^ k bits. By number as `word_at`, but that one reads and this one stores: they have no
+// more in common than the four widths.
 fn keep_word(cells: &mut [u8], p: Kept, k: usize, v: u8) -> Kept
     requires { k ≤ 3 }
     ensures { Keeps cells.old p (λ n. store_value n (word k v)) result cells.new }
@@ -160,6 +167,7 @@ fn keep_word(cells: &mut [u8], p: Kept, k: usize, v: u8) -> Kept
 }
 
 // The arguments of jets 0 to 2 are words of 2 ^ k bits: the jet's width over the number of its arguments.
+#[tactic(auto, using(crate::proofs::Words::some_arguments, crate::proofs::Words::few_zeros, crate::proofs::Words::sizes))]
 fn argument_size(j: u16) -> usize
     requires { j < 3 }
     ensures { result ≡ size_of j }
@@ -209,6 +217,7 @@ fn add_8(cells: &mut [u8], used: u16, x: u16) -> Result<Kept, JetEnd>
 }
 
 // What jet j makes of cell x.
+#[tactic(auto, using(crate::proofs::Deliveries::jet_verify, crate::proofs::Deliveries::jet_eq, crate::proofs::Deliveries::jet_add, crate::proofs::Deliveries::jet_missing))]
 pub fn run_jet(cells: &mut [u8], used: u16, j: u16, x: u16) -> Result<Kept, JetEnd>
     ensures { Delivers cells.old used (jet_on (shape_at cells.old) j x) result cells.new }
 {

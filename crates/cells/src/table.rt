@@ -1,4 +1,6 @@
 // Tables of five bytes an entry, and cells that are stored one after another.
+#![tactic(auto, using(crate::proofs::Numbers::word_short, crate::proofs::Numbers::left_word, crate::proofs::Numbers::right_word), unfolding(crate::specs::Entries::kind_at))]
+
 ghost use Rattle.std.specs.Prelude.{◌≡◌, ◌<◌, slice_index};
 ghost use Rattle.book.specs.Format.{word_at};
 ghost use Rattle.cells.specs.Entries.{kind_at, left_at, right_at};
@@ -6,7 +8,7 @@ ghost use Rattle.cells.specs.Cells.{store};
 ghost use Rattle.cells.specs.Keeping.{Fresh, Keeps};
 
 use book::word::word;
-use named::entry::write_entry;
+use named::entry::{ENTRY, write_entry};
 
 // The kinds of cells, numbers as they are bytes of the table: document 01, CHECK and the meanings.
 pub const UNIT: u8 = 1;
@@ -48,19 +50,19 @@ fn pair_at(t: &[u8], i: usize) -> u16
 pub fn kind_at(t: &[u8], n: u16) -> u8
     ensures { result ≡ kind_at t.now n }
 {
-    byte(t, 5 * (n as usize))
+    byte(t, ENTRY * (n as usize))
 }
 
 pub fn left_at(t: &[u8], n: u16) -> u16
     ensures { result ≡ left_at t.now n }
 {
-    pair_at(t, 5 * (n as usize) + 1)
+    pair_at(t, ENTRY * (n as usize) + 1)
 }
 
 pub fn right_at(t: &[u8], n: u16) -> u16
     ensures { result ≡ right_at t.now n }
 {
-    pair_at(t, 5 * (n as usize) + 3)
+    pair_at(t, ENTRY * (n as usize) + 3)
 }
 
 // With so many cells used, the next one is to be stored.

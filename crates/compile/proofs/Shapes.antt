@@ -6,15 +6,15 @@ use mathlib.Core.Path.{◌≡◌, refl, sym, ap, ◌∙◌}
 use mathlib.Core.List.{List, [], ◌∷◌}
 use native.Mathlib.Omega.{arith}
 use native.Mathlib.Nat.{add-zero}
-use borrow.Author.Tests.{eq-eqb, ne_eqb}
 use lib.ListN.{length}
 use lib.Dec.{T, eqb, ltb, eqb→eq}
+use Rattle.std.specs.Prelude.{Option, None, Some}
 use Rattle.laws.specs.Table.{pick, among, every, ◌also◌}
 use Rattle.array.specs.Split.{split_of, least_power, not_below}
 use Rattle.book.specs.Format.{STATEMENT, FUNCTION, EC, EW, EV, ET, EL, E0, E1, EN, EB, SA, SE, EM, EH, CJ, CL, CR, CD, CA, CP, CN, CK, CF, CQ, CY, CW, CH, FN}
 use Rattle.book.specs.Index.{mark, field}
 use Rattle.book.specs.Stands.{Stands}
-use Rattle.book.specs.Tree.{Tree, Pat, Stmts, tree, expr_of, pattern_of, fun_of, as_expr, as_pattern, as_stmt, as_fun, group, exprs_at, arms_at, parts_at, maker}
+use Rattle.book.specs.Tree.{Tree, Pat, Stmts, tree, expr_of, pattern_of, fun_of, as_expr, as_pattern, as_stmt, as_fun, group, exprs_at, arms_at, parts_at, maker, end, no_end}
 use Rattle.book.proofs.Standing.{stands_tree, stands_mark, function_mark}
 use Rattle.named.specs.Trace.{Run, pure, graft, bind, stop, bindings}
 use Rattle.pattern.specs.Find.{params_of}
@@ -24,7 +24,7 @@ use Rattle.named.specs.Combinators as node
 use Rattle.named.proofs.Runs.{bind_bind, bind_pure, bind_done}
 use Rattle.named.proofs.Builds.{joins_none, joins_one, joins_step}
 use Rattle.parts.specs.Joins.{matched}
-use Rattle.parts.specs.Parts.{Marked, row_marks, span_at, is_call, is_functional, symbol_at, gather_run, wrap_run, fold_run, plain_run, widths_row, close_run}
+use Rattle.parts.specs.Parts.{Marked, row_marks, span_at, is_call, is_functional, symbol_at, gather_run, wrap_run, fold_run, plain_run, widths_row, block_end, close_run}
 use Rattle.compile.specs.Lower.{binding, widths, lower, lowers, words, arms, statements, body}
 use Rattle.compile.specs.Cycle.{element_run, elements_run, row_run, body_run, call_run, complete_run, begin_run, entered, stmts_of}
 
@@ -259,14 +259,18 @@ module _ (b i : List ℕ) (s r : ℕ) (y : Bool) (sc : List Pat) where
       go false e = does_is k (eqb→eq (mark b i s) SE (rw e at (stands_mark k (λ j. pick (eqb j SA) true (eqb j SE)) tt tt))) rest
 
 -- the end of a block
-module _ (b i : List ℕ) (r k : ℕ) (y : Bool) (sc : List Pat) where
-  pub end_none : field b i r k ≡ 65535 → statements y r (stmts_of b i r k 0) sc ≡ node.unit r
-  unfolding lower group stmts_of
-  end_none e = rw (add-zero, eq-eqb _ _ e)
+module _ (b i : List ℕ) (r : ℕ) (y : Bool) (sc : List Pat) where
+  abbrev pub ended : Option ℕ → Run ℕ
+  ended (Some x) = lower y (expr_of b i x) sc
+  ended None = node.unit r
 
-  pub end_some : (field b i r k ≡ 65535 → ⊥) → statements y r (stmts_of b i r k 0) sc ≡ lower y (expr_of b i (field b i r k)) sc
-  unfolding lower group stmts_of
-  end_some e = rw (add-zero, ne_eqb _ _ e)
+  pub end_is : statements y r (stmts_of b i r (2 + field b i r 1) 0) sc ≡ ended (block_end (field b i r))
+  unfolding lower group stmts_of block_end
+  end_is = rw add-zero (go (eqb (field b i r (2 + field b i r 1)) 65535))
+    where
+      go : (t : Bool) → statements y r (pick t no_end (end (expr_of b i (field b i r (2 + field b i r 1))))) sc ≡ ended (pick t None (Some (field b i r (2 + field b i r 1))))
+      go true = refl
+      go false = refl
 
 -- a function's body
 pub body_is : (b i : List ℕ) (f : ℕ) (y : Bool) → Stands b i f FUNCTION → body y (fun_of b i f) ≡ lower y (expr_of b i (field b i f (2 + 2 * field b i f 1))) (scope.bound b i f ∷ [])

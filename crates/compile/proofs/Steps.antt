@@ -45,14 +45,6 @@ module _ (y : Bool) (b i : List ℕ) (r m : ℕ) (sc : List Pat) (s : ℕ) where
 pub record Suffices (y : Bool) (b i : List ℕ) (r m : ℕ) (sc : List Pat) (s f n : ℕ) (t₀ t : Table) (k : ℕ) (roots : List ℕ) : Type 0 where
   pub all : (w : Result (Unit {0}) Refusal) (xs : List ℕ) (t' : Table) → Fills t (elements_run y b i r m sc s (f + s * k) (n - k)) w xs t' → Fills t₀ (elements_run y b i r m sc s f n) w (take k roots ++ xs) t'
 
-pub suffices_start : (y : Bool) (b i : List ℕ) (r m : ℕ) (sc : List Pat) (s f n : ℕ) (t : Table) (k : ℕ) (roots : List ℕ) → k ≡ 0 → Suffices y b i r m sc s f n t t k roots
-suffices_start y b i r m sc s f n t k roots o = record {
-  all = λ w xs t' h.
-      let e : f + s * 0 ≡ f = omega arith in
-      let z : n - 0 ≡ n = omega arith in
-      rw o (rw (o, e, z) at h);
-}
-
 module _ {y : Bool} {b i : List ℕ} {r m : ℕ} {sc : List Pat} {s f n : ℕ} {t₀ t : Table} {k : ℕ} {roots : List ℕ} (p : Suffices y b i r m sc s f n t₀ t k roots) where
   pub suffices_next : {t₁ : Table} {a : ℕ} → k < n → k < length roots → Done t (element_run y b i r m sc (f + s * k)) (Ok a) t₁ → Suffices y b i r m sc s f n t₀ t₁ (k + 1) (set roots k a)
   suffices_next {t₁} {a} h l d = record {

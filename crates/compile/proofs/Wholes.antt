@@ -21,18 +21,15 @@ use Rattle.named.specs.Stores.{Gives, Stops, Fate, Done}
 use Rattle.named.specs.Table.{Table, Fresh}
 use Rattle.std.specs.Borrow.{MutBor}
 use Rattle.named.proofs.Images.{zeros, clear_gives, clear_stops}
-use Rattle.scope_bindings.specs.Scope.{IGNORED, scope_of, ScopeStands, ignored, Roots}
+use Rattle.scope_bindings.specs.Scope.{IGNORED, scope_of, Roots}
 use Rattle.scope_bindings.specs.declared.ScopeBindings.{ScopeBindings}
-use Rattle.scope_bindings.proofs.Scopes.{bound_ignored, scope_root, root_stands}
+use Rattle.scope_bindings.proofs.Scopes.{bound_ignored, scope_root}
 use Rattle.compile.specs.Lower.{lower}
 use Rattle.compile.specs.Whole.{trace_of, answer_of, lowering, lower_of, table_of, Lowered}
 
 -- the root's scope
 pub root_scope_lem : {s : ScopeBindings} (b i : List ℕ) → Roots IGNORED s → scope_of b i s ≡ ignore ∷ []
 root_scope_lem b i h = scope_root b i h ∙ rw (bound_ignored b i IGNORED refl)
-
-pub root_fits : {b i : List ℕ} {s : ScopeBindings} → Roots IGNORED s → ScopeStands b i s
-root_fits h = root_stands (ignored refl) h
 
 module _ (y : Bool) (b i : List ℕ) (r : ℕ) {s : ScopeBindings} {t : MutBor (List ℕ)} {d : Table} (d' : Table) (h : Roots IGNORED s) (z : t.now ≡ zeros (length t.now)) (f : Fresh t d) where
   abbrev root : Run ℕ
@@ -69,9 +66,6 @@ module _ (b : List ℕ) (n : ℕ) (e : read_of b ≡ Ok n) where
 -- a table that was cleared is as long as it was
 pub clear_length : {t : List ℕ} {n : ℕ} → t ≡ zeros n → length t ≡ n
 clear_length {n = n} e = ap length e ∙ length-replicate {A = ℕ} n 0
-
-pub clear_again : {t : List ℕ} (n : ℕ) → t ≡ zeros n → t ≡ zeros (length t)
-clear_again {t} n e = let z : n ≡ length t = sym (clear_length e) in e ∙ ap zeros z
 
 -- and so LOWER's answer and its table
 module _ (b : List ℕ) (y : Bool) (l : ℕ) where

@@ -1,6 +1,6 @@
 -- What each function of the lowering's cycle does, by the mark of its record. That together they are `lower` is proved, not assumed.
 -- Assumes nothing.
-use Rattle.std.specs.Prelude.{ℕ, ◌-◌, ◌<◌, ◌≡◌, Bool, List, [], ◌∷◌, eqb}
+use Rattle.std.specs.Prelude.{ℕ, ◌+◌, ◌-◌, ◌<◌, ◌≡◌, Bool, List, [], ◌∷◌, eqb}
 use Rattle.laws.specs.Table.{pick}
 use Rattle.book.specs.Format.{PATTERN, EXPRESSION, SA, EH}
 use Rattle.book.specs.Index.{mark, field, Lies}
@@ -11,18 +11,14 @@ use Rattle.scope_bindings.specs.Scope.{scope_of, ScopeStands}
 use Rattle.scope_bindings.specs.declared.ScopeBindings.{ScopeBindings}
 use Rattle.recipes.specs.Calls as calls
 use Rattle.parts.specs.Joins.{chosen, finished}
-use Rattle.parts.specs.Parts.{Marked, span_at, is_call, is_functional, symbol_at, gather_run, wrap_run, fold_run, plain_run}
-use Rattle.compile.specs.Lower.{binding, lower, body}
+use Rattle.parts.specs.declared.view.Arm.{Arm}
+use Rattle.parts.specs.declared.view.Span.{Span}
+use Rattle.parts.specs.Parts.{Spanned, span_at, is_call, is_functional, symbol_at, gather_run, wrap_run, fold_run, plain_run}
+use Rattle.compile.specs.Lower.{binding, lower, statements, body}
 use Rattle.compile.specs.declared.cycle.Lowering.{Lowering}
 
--- of the book that a lowering reads: record r stands as a kind, or has a mark; a scope stands, and has these patterns
+-- of the book that a lowering reads: a scope stands, and has these patterns
 module _ (l : Lowering) where
-  abbrev pub StandsIn : ℕ → ℕ → Type 0
-  StandsIn r k = Stands l.book.now.bytes l.book.now.index r k
-
-  abbrev pub MarkedIn : ℕ → ℕ → Type 0
-  MarkedIn r m = Marked l.book.now.bytes l.book.now.index r m
-
   abbrev pub ScopeIn : ScopeBindings → Type 0
   ScopeIn s = ScopeStands l.book.now.bytes l.book.now.index s
 
@@ -88,3 +84,50 @@ module _ (b i : List ℕ) (r : ℕ) where
 pub record Enters (b i : List ℕ) (s : ℕ) (p q : ScopeBindings) : Type 0 where
   pub stands : ScopeStands b i q
   pub is : (mark b i s ≡ SA → p.count < 256) → scope_of b i q ≡ entered b i s (scope_of b i p)
+
+-- and of the book that a lowering reads: what callers know of a span of n elements, of an element's field, of the scope after a statement
+module _ (l : Lowering) where
+  abbrev pub SpanIn : ℕ → ℕ → Span → ℕ → Type 0
+  SpanIn r m p n = Spanned l.book.now.bytes l.book.now.index r m p × (n ≡ p.count)
+
+  abbrev pub ElementIn : ℕ → ℕ → ℕ → Type 0
+  ElementIn r m j = InSpan l.book.now.bytes l.book.now.index r m j
+
+  abbrev pub EntersIn : ℕ → ScopeBindings → ScopeBindings → Type 0
+  EntersIn t p q = Enters l.book.now.bytes l.book.now.index t p q
+
+  -- what its record r of mark m stores in the scope s: the element at field j, the elements of the span p, the whole row
+  abbrev pub element_in : ℕ → ℕ → ScopeBindings → ℕ → Run ℕ
+  element_in r m s j = element_run l.symbols l.book.now.bytes l.book.now.index r m (patterns l s) j
+
+  abbrev pub elements_in : ℕ → ℕ → ScopeBindings → Span → Run (List ℕ)
+  elements_in r m s p = elements_run l.symbols l.book.now.bytes l.book.now.index r m (patterns l s) p.stride p.from p.count
+
+  abbrev pub row_in : ℕ → ℕ → ScopeBindings → Run ℕ
+  row_in r m s = row_run l.symbols l.book.now.bytes l.book.now.index r m (patterns l s)
+
+  -- and after that row, whose node is a
+  abbrev pub made_in : ℕ → ℕ → ScopeBindings → ℕ → Run ℕ
+  made_in r m s a = complete_run l.symbols l.book.now.bytes l.book.now.index r m (patterns l s) a
+
+  -- what the arm a of record r stores, where its pattern is bound
+  abbrev pub arm_in : ℕ → Arm → ScopeBindings → Run ℕ
+  arm_in r a s = binding r (patterns l s)
+      (lower l.symbols (expr_of l.book.now.bytes l.book.now.index a.body) (pattern_of l.book.now.bytes l.book.now.index a.pattern ∷ patterns l s))
+
+  -- what a call stores: its body, and all of it after its arguments; what the function f stores
+  abbrev pub body_in : ℕ → ℕ → Run ℕ
+  body_in r m = body_run l.symbols l.book.now.bytes l.book.now.index r m
+
+  abbrev pub call_in : ℕ → ℕ → ℕ → Run ℕ
+  call_in r m a = call_run l.symbols l.book.now.bytes l.book.now.index r m a
+
+  abbrev pub function_in : ℕ → Run ℕ
+  function_in f = body l.symbols (fun_of l.book.now.bytes l.book.now.index f)
+
+  -- what a block stores: statement t up to its rest, and the end of block r
+  abbrev pub begin_in : ℕ → ScopeBindings → Run ℕ
+  begin_in t s = begin_run l.book.now.bytes l.book.now.index t l.symbols (patterns l s)
+
+  abbrev pub last_in : ℕ → ScopeBindings → Run ℕ
+  last_in r s = statements l.symbols r (stmts_of l.book.now.bytes l.book.now.index r (2 + field l.book.now.bytes l.book.now.index r 1) 0) (patterns l s)

@@ -1,16 +1,18 @@
 // The cycle of lowering: an expression, its row of elements, its block, its call. Every step goes to an earlier record, or at the same
 // record one step further.
-ghost use Rattle.std.specs.Prelude.{◌≡◌, true, ◌∷◌, ◌+◌, T, length};
+#![tactic(auto, using(named::proofs::Storing::then, named::proofs::Storing::halt, named::proofs::Storing::handed), unfolding(crate::specs::Cycle::begin_run, crate::specs::Cycle::element_run, crate::specs::Cycle::body_run, crate::specs::Cycle::call_run, crate::specs::Cycle::complete_run))]
+
+ghost use Rattle.std.specs.Prelude.{◌≡◌, true, T, length};
 ghost use Rattle.laws.specs.Table.{among};
 ghost use Rattle.book.specs.Format.{EXPRESSION, PATTERN, STATEMENT, FUNCTION, EV, EB, EM, EH};
-ghost use Rattle.book.specs.Index.{field};
-ghost use Rattle.book.specs.Tree.{expr_of, pattern_of, fun_of};
 ghost use Rattle.named.specs.Stores.{Done, Fills};
 ghost use Rattle.recipes.specs.Calls.{paired};
-ghost use Rattle.scope_bindings.specs.Scope.{variable};
-ghost use Rattle.parts.specs.Parts.{Spanned, row_marks, is_call};
-ghost use Rattle.compile.specs.Lower.{binding_at, binding, lower, statements, body};
-ghost use Rattle.compile.specs.Cycle.{element_run, elements_run, row_run, body_run, complete_run, call_run, begin_run, stmts_of, Enters, InSpan, StandsIn, MarkedIn, ScopeIn, patterns, lowered};
+ghost use Rattle.parts.specs.Parts.{row_marks, is_call};
+ghost use Rattle.compile.specs.Lower.{binding_at};
+ghost use Rattle.book.specs.Books.{StandsIn};
+ghost use Rattle.parts.specs.Parts.{MarkedIn};
+ghost use Rattle.compile.specs.Cycle.{ScopeIn, SpanIn, ElementIn, EntersIn};
+ghost use Rattle.compile.specs.Cycle.{lowered, element_in, elements_in, row_in, made_in, arm_in, body_in, call_in, function_in, begin_in, last_in};
 
 use book::fault::{Fault, Refusal};
 use book::format::{CK, EB, EC, EH, EM, EV, EW, SA};
@@ -20,7 +22,7 @@ use parts::part::{
     choose_arm, close_all, constant, finish, fold_body, gather, match_arms, plain_body, witness,
     wrap,
 };
-use parts::view::{Arm, Span, arm_at, is_call, is_functional, span_of};
+use parts::view::{Arm, Span, arm_at, end_of, is_call, is_functional, span_of};
 use recipes::calls::paired;
 use scope_bindings::ScopeBindings;
 
@@ -40,7 +42,7 @@ impl Lowering<'_> {
         scope: &ScopeBindings,
         nodes: &mut Nodes,
     ) -> Result<u16, Refusal>
-        requires { (StandsIn self.now r EXPRESSION) × (ScopeIn self.now scope.now) }
+        requires { (StandsIn self.now.book.now r EXPRESSION) × (ScopeIn self.now scope.now) }
         ensures { Done nodes.old (lowered self.now r scope.now) result nodes.new }
     {
         let m = self.book.mark_at(r);
@@ -60,9 +62,9 @@ impl Lowering<'_> {
 
     // A variable: the selector of its name.
     fn variable(&self, r: u16, scope: &ScopeBindings, nodes: &mut Nodes) -> Result<u16, Refusal>
-        requires marked { MarkedIn self.now r EV }
+        requires marked { MarkedIn self.now.book.now r EV }
         requires scope_stands { ScopeIn self.now scope.now }
-        ensures { Done nodes.old (variable r (field self.now.book.now.bytes self.now.book.now.index r 1) (patterns self.now scope.now)) result nodes.new }
+        ensures { Done nodes.old (lowered self.now r scope.now) result nodes.new }
     {
         let name = self.book.field_at(r, 1);
         scope.get(self.book, name, nodes, r)
@@ -77,7 +79,7 @@ impl Lowering<'_> {
         scope: &ScopeBindings,
         nodes: &mut Nodes,
     ) -> Result<u16, Refusal>
-        requires { (MarkedIn self.now r m) × ((ScopeIn self.now scope.now) × (T (among row_marks m))) }
+        requires { (MarkedIn self.now.book.now r m) × ((ScopeIn self.now scope.now) × (T (among row_marks m))) }
         ensures { Done nodes.old (lowered self.now r scope.now) result nodes.new }
     {
         let a = self.row(r, m, scope, nodes)?;
@@ -87,8 +89,8 @@ impl Lowering<'_> {
     // The elements of a record, and what joins them.
     #[cycle(lowering)]
     fn row(&self, r: u16, m: u8, scope: &ScopeBindings, nodes: &mut Nodes) -> Result<u16, Refusal>
-        requires { (MarkedIn self.now r m) × ((ScopeIn self.now scope.now) × (T (among row_marks m))) }
-        ensures { Done nodes.old (row_run self.now.symbols self.now.book.now.bytes self.now.book.now.index r m (patterns self.now scope.now)) result nodes.new }
+        requires { (MarkedIn self.now.book.now r m) × ((ScopeIn self.now scope.now) × (T (among row_marks m))) }
+        ensures { Done nodes.old (row_in self.now r m scope.now) result nodes.new }
     {
         let span = span_of(self.book, r, m);
         let mut room = [0u16; 256];
@@ -108,8 +110,8 @@ impl Lowering<'_> {
         roots: &mut [u16],
         nodes: &mut Nodes,
     ) -> Result<(), Refusal>
-        requires { (MarkedIn self.now r m) × ((ScopeIn self.now scope.now) × ((T (among row_marks m)) × ((Spanned self.now.book.now.bytes self.now.book.now.index r m span) × (length roots.old ≡ span.count)))) }
-        ensures { Fills nodes.old (elements_run self.now.symbols self.now.book.now.bytes self.now.book.now.index r m (patterns self.now scope.now) span.stride span.from span.count) result roots.new nodes.new }
+        requires { (MarkedIn self.now.book.now r m) × ((ScopeIn self.now scope.now) × ((T (among row_marks m)) × (SpanIn self.now r m span (length roots.old)))) }
+        ensures { Fills nodes.old (elements_in self.now r m scope.now span) result roots.new nodes.new }
     {
         for (k, root) in roots.iter_mut().enumerate() {
             let j = span.from + span.stride * k;
@@ -128,8 +130,8 @@ impl Lowering<'_> {
         scope: &ScopeBindings,
         nodes: &mut Nodes,
     ) -> Result<u16, Refusal>
-        requires { (MarkedIn self.now r m) × ((ScopeIn self.now scope.now) × (InSpan self.now.book.now.bytes self.now.book.now.index r m j)) }
-        ensures { Done nodes.old (element_run self.now.symbols self.now.book.now.bytes self.now.book.now.index r m (patterns self.now scope.now) j) result nodes.new }
+        requires { (MarkedIn self.now.book.now r m) × ((ScopeIn self.now scope.now) × (ElementIn self.now r m j)) }
+        ensures { Done nodes.old (element_in self.now r m scope.now j) result nodes.new }
     {
         if m == EH {
             let a = arm_at(self.book, r, j - 1);
@@ -143,8 +145,8 @@ impl Lowering<'_> {
     // An arm of a match: its expression, where its pattern is bound.
     #[cycle(lowering)]
     fn arm(&self, r: u16, a: Arm, scope: &ScopeBindings, nodes: &mut Nodes) -> Result<u16, Refusal>
-        requires { (StandsIn self.now a.pattern PATTERN) × ((StandsIn self.now a.body EXPRESSION) × (ScopeIn self.now scope.now)) }
-        ensures { Done nodes.old (binding r (patterns self.now scope.now) (lower self.now.symbols (expr_of self.now.book.now.bytes self.now.book.now.index a.body) (pattern_of self.now.book.now.bytes self.now.book.now.index a.pattern ∷ (patterns self.now scope.now)))) result nodes.new }
+        requires { (StandsIn self.now.book.now a.pattern PATTERN) × ((StandsIn self.now.book.now a.body EXPRESSION) × (ScopeIn self.now scope.now)) }
+        ensures { Done nodes.old (arm_in self.now r a scope.now) result nodes.new }
     {
         if scope.count >= 256 {
             return Err(Refusal {
@@ -166,8 +168,8 @@ impl Lowering<'_> {
         scope: &ScopeBindings,
         nodes: &mut Nodes,
     ) -> Result<u16, Refusal>
-        requires { (MarkedIn self.now r m) × (ScopeIn self.now scope.now) }
-        ensures { Done nodes.old (complete_run self.now.symbols self.now.book.now.bytes self.now.book.now.index r m (patterns self.now scope.now) inner) result nodes.new }
+        requires { (MarkedIn self.now.book.now r m) × (ScopeIn self.now scope.now) }
+        ensures { Done nodes.old (made_in self.now r m scope.now inner) result nodes.new }
     {
         if m == EH {
             self.choose(r, inner, scope, nodes)
@@ -187,8 +189,8 @@ impl Lowering<'_> {
         scope: &ScopeBindings,
         nodes: &mut Nodes,
     ) -> Result<u16, Refusal>
-        requires { (MarkedIn self.now r EH) × (ScopeIn self.now scope.now) }
-        ensures { Done nodes.old (complete_run self.now.symbols self.now.book.now.bytes self.now.book.now.index r EH (patterns self.now scope.now) cases) result nodes.new }
+        requires { (MarkedIn self.now.book.now r EH) × (ScopeIn self.now scope.now) }
+        ensures { Done nodes.old (made_in self.now r EH scope.now cases) result nodes.new }
     {
         let e = self.book.field_at(r, 1);
         let s = self.expression(e, scope, nodes)?;
@@ -198,8 +200,8 @@ impl Lowering<'_> {
     // A call, after its arguments: its body, and then what joins them.
     #[cycle(lowering)]
     fn call(&self, r: u16, m: u8, arguments: u16, nodes: &mut Nodes) -> Result<u16, Refusal>
-        requires { (MarkedIn self.now r m) × (is_call m ≡ true) }
-        ensures { Done nodes.old (call_run self.now.symbols self.now.book.now.bytes self.now.book.now.index r m arguments) result nodes.new }
+        requires { (MarkedIn self.now.book.now r m) × (is_call m ≡ true) }
+        ensures { Done nodes.old (call_in self.now r m arguments) result nodes.new }
     {
         let b = self.body(r, m, nodes)?;
         finish(self.book, self.symbols, r, m, arguments, b, nodes)
@@ -208,8 +210,8 @@ impl Lowering<'_> {
     // The body of a call.
     #[cycle(lowering)]
     fn body(&self, r: u16, m: u8, nodes: &mut Nodes) -> Result<u16, Refusal>
-        requires { (MarkedIn self.now r m) × (is_call m ≡ true) }
-        ensures { Done nodes.old (body_run self.now.symbols self.now.book.now.bytes self.now.book.now.index r m) result nodes.new }
+        requires { (MarkedIn self.now.book.now r m) × (is_call m ≡ true) }
+        ensures { Done nodes.old (body_in self.now r m) result nodes.new }
     {
         if is_functional(m) {
             let f = self.book.field_at(r, 1);
@@ -223,8 +225,8 @@ impl Lowering<'_> {
     // A function's body, lowered anew for each call, in a scope of its parameters only.
     #[cycle(lowering)]
     fn function(&self, f: u16, nodes: &mut Nodes) -> Result<u16, Refusal>
-        requires { StandsIn self.now f FUNCTION }
-        ensures { Done nodes.old (body self.now.symbols (fun_of self.now.book.now.bytes self.now.book.now.index f)) result nodes.new }
+        requires { StandsIn self.now.book.now f FUNCTION }
+        ensures { Done nodes.old (function_in self.now f) result nodes.new }
     {
         let n = self.book.field_at(f, 1) as usize;
         let e = self.book.field_at(f, 2 + 2 * n);
@@ -235,7 +237,7 @@ impl Lowering<'_> {
     // A match of two arms: both arms, the scrutinee, and then the case.
     #[cycle(lowering)]
     fn two_arms(&self, r: u16, scope: &ScopeBindings, nodes: &mut Nodes) -> Result<u16, Refusal>
-        requires { (MarkedIn self.now r EM) × (ScopeIn self.now scope.now) }
+        requires { (MarkedIn self.now.book.now r EM) × (ScopeIn self.now scope.now) }
         ensures { Done nodes.old (lowered self.now r scope.now) result nodes.new }
     {
         let left = arm_at(self.book, r, 2);
@@ -250,7 +252,7 @@ impl Lowering<'_> {
     // A block: its statements begun in order, its end, and the statements ended from the last on.
     #[cycle(lowering)]
     fn block(&self, r: u16, scope: &ScopeBindings, nodes: &mut Nodes) -> Result<u16, Refusal>
-        requires { (MarkedIn self.now r EB) × (ScopeIn self.now scope.now) }
+        requires { (MarkedIn self.now.book.now r EB) × (ScopeIn self.now scope.now) }
         ensures { Done nodes.old (lowered self.now r scope.now) result nodes.new }
     {
         let count = self.book.field_at(r, 1) as usize;
@@ -268,23 +270,20 @@ impl Lowering<'_> {
     // The end of a block: an expression, or unit where there is none.
     #[cycle(lowering)]
     fn end(&self, r: u16, scope: &ScopeBindings, nodes: &mut Nodes) -> Result<u16, Refusal>
-        requires { (MarkedIn self.now r EB) × (ScopeIn self.now scope.now) }
-        ensures { Done nodes.old (statements self.now.symbols r (stmts_of self.now.book.now.bytes self.now.book.now.index r (2 + field self.now.book.now.bytes self.now.book.now.index r 1) 0) (patterns self.now scope.now)) result nodes.new }
+        requires { (MarkedIn self.now.book.now r EB) × (ScopeIn self.now scope.now) }
+        ensures { Done nodes.old (last_in self.now r scope.now) result nodes.new }
     {
-        let n = self.book.field_at(r, 1) as usize;
-        let e = self.book.field_at(r, 2 + n);
-        if e == 65535 {
-            nodes.put(r, UNIT, 0, 0)
-        } else {
-            self.expression(e, scope, nodes)
+        match end_of(self.book, r) {
+            Some(e) => self.expression(e, scope, nodes),
+            None => nodes.put(r, UNIT, 0, 0),
         }
     }
 
     // A statement, up to the rest of its block.
     #[cycle(lowering)]
     fn begin(&self, s: u16, scope: &ScopeBindings, nodes: &mut Nodes) -> Result<u16, Refusal>
-        requires { (StandsIn self.now s STATEMENT) × (ScopeIn self.now scope.now) }
-        ensures { Done nodes.old (begin_run self.now.book.now.bytes self.now.book.now.index s self.now.symbols (patterns self.now scope.now)) result nodes.new }
+        requires { (StandsIn self.now.book.now s STATEMENT) × (ScopeIn self.now scope.now) }
+        ensures { Done nodes.old (begin_in self.now s scope.now) result nodes.new }
     {
         if self.book.mark_at(s) == SA {
             let e = self.book.field_at(s, 1);
@@ -298,9 +297,9 @@ impl Lowering<'_> {
 
     // The scope of the rest of a block after statement s.
     fn enter(&self, s: u16, scope: ScopeBindings) -> ScopeBindings
-        requires stands { StandsIn self.now s STATEMENT }
+        requires stands { StandsIn self.now.book.now s STATEMENT }
         requires scope_stands { ScopeIn self.now scope }
-        ensures { Enters self.now.book.now.bytes self.now.book.now.index s scope result }
+        ensures { EntersIn self.now s scope result }
     {
         if self.book.mark_at(s) != SA || scope.count >= 256 {
             return scope;

@@ -39,7 +39,7 @@ fn lower_root(book: &Book, symbols: bool, r: u16, nodes: &mut [u8]) -> Result<u1
     let mut table = Nodes::new(nodes);
     let lowering = Lowering { book, symbols };
     match lowering.expression(r, &scope, &mut table) {
-        Ok(_) => Ok(table.count()),
+        Ok(_) => Ok(table.next),
         Err(refusal) => {
             clear(nodes);
             Err(refusal)

@@ -1,11 +1,7 @@
 -- Laws of the hash adds: the rule of the jets 4 to 9, and what is known of each hash width's jet.
 -- Assumes nothing.
-use mathlib.Core.Bool.{Bool}
-use mathlib.Core.Logic.{⊎_elim}
-use mathlib.Core.Path.{◌≡◌, refl, ap, ◌∙◌}
-use Prim.Native.Nat.{ℕ, ◌+◌, ◌<◌, ◌≤◌}
-use native.Mathlib.Omega.{arith}
-use lib.Dec.{T, eqb, leb, ltb, eqb→eq, leb→le, ltb→lt}
+use Rattle.std.proofs.Common.{Bool, ⊎_elim, ◌≡◌, refl, ap, ◌∙◌, ℕ, ◌+◌, ◌-◌, ◌<◌, ◌≤◌, arith, T, eqb, leb, ltb, eqb→eq, leb→le, ltb→lt}
+use Rattle.std.specs.Int.Count.{count_leading_zeros}
 use Rattle.laws.specs.Choices.{passes, all_chosen}
 use Rattle.laws.specs.Table.{below, all_from}
 use Rattle.jet.specs.Jets.{context, jet_of, adders, add_of, word_of, Adds}
@@ -28,7 +24,7 @@ adds_rule j h k = record {
 }
 
 -- what is computed of each hash width and its jet holds of the two
-pub adder : (f : ℕ → ℕ → Bool) → T (passes f adders) → (bits : ℕ) → 0 < add_of bits → T (f bits (add_of bits))
+adder : (f : ℕ → ℕ → Bool) → T (passes f adders) → (bits : ℕ) → 0 < add_of bits → T (f bits (add_of bits))
 unfolding add_of
 adder f t bits h = ⊎_elim (λ (e : add_of bits ≡ 0). absurd (omega arith)) (λ (p : T (f bits (add_of bits))). p) (all_chosen f adders bits 0 t)
 
@@ -40,3 +36,11 @@ adds_of bits r h q =
     let to : a < 10 = ltb→lt a 10 (adder (λ b j. ltb j 10) tt bits h) in
     let word : word_of a ≡ bits = eqb→eq (word_of a) bits (adder (λ b j. eqb (word_of j) b) tt bits h) in
     rw q (record { is = refl; from = from; to = to; word = word; input = (adds_rule a from to).input ∙ ap (λ (n : ℕ). context + n) word })
+
+zeros : (bits : ℕ) → 0 < add_of bits → 16 - count_leading_zeros 16 bits ≡ add_of bits
+unfolding count_leading_zeros
+zeros bits h = eqb→eq (16 - count_leading_zeros 16 bits) (add_of bits) (adder (λ b j. eqb (16 - count_leading_zeros 16 b) j) tt bits h)
+
+-- its leading zeros tell the jet's number, computed at each hash width
+pub adds_zeros : (bits : ℕ) → 0 < add_of bits → Adds bits (16 - count_leading_zeros 16 bits)
+adds_zeros bits h = adds_of bits (16 - count_leading_zeros 16 bits) h (zeros bits h)

@@ -12,6 +12,7 @@ pub struct Jet {
     pub output: u16,
 }
 
+// A jet's number is its place here. It is no enum: an operand of a node has it, and a book's field.
 const JETS: [Jet; 11] = [
     // 0 verify
     Jet {
@@ -90,6 +91,7 @@ pub fn jet_at(j: usize) -> Jet
 
 // The jet that adds a word of so many bits to a hash. Widths are powers of two from 8 on and the jets stand in their order, so the
 // leading zeros tell its number.
+#[tactic(auto, using(crate::proofs::Adders::adds_zeros))]
 pub fn add_jet(bits: u16) -> u16
     requires { 0 < add_of bits }
     ensures { Adds bits result }

@@ -7,6 +7,7 @@
 use book::fault::Numbers;
 use compile::lower;
 use console::read_full;
+use named::entry::ENTRY;
 use std::io;
 use std::io::Read;
 use vectors::{begins_with, fill, is_due, is_zero_from, low_first, replay, size_of};
@@ -45,7 +46,7 @@ fn is_right(head: Head, book: &[u8], nodes: &[u8], table: &mut [u8]) -> bool {
     fill(table);
     is_due(lower(book, head.symbols, table), head.due)
         && begins_with(table, nodes)
-        && is_zero_from(table, 5 * (head.due.count as usize))
+        && is_zero_from(table, ENTRY * (head.due.count as usize))
 }
 
 // The next book and nodes, read into all of their parts.

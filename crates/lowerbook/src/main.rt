@@ -5,6 +5,10 @@ ghost use Rattle.std.specs.Prelude.{◌+◌, ◌*◌, ◌≤◌, length};
 
 use compile::lower;
 use console::{print_count, print_refusal, read_full};
+use named::entry::ENTRY;
+use named::node::{
+    ASSERTL, ASSERTR, CASE, COMP, DROP, FAIL, IDEN, INJL, INJR, PAIR, SCRIBE, TAKE, UNIT, WITNESS,
+};
 use std::io;
 use std::io::Write;
 
@@ -12,44 +16,40 @@ use std::io::Write;
 const BOOK: usize = 65536;
 
 // Room for 13,000 nodes.
-const ROOM: usize = 65000;
-
-fn print(out: &mut impl Write, text: &[u8]) -> io::Result<()> {
-    out.write_all(text)
-}
+const ROOM: usize = ENTRY * 13000;
 
 // A kind's name.
-fn print_kind(out: &mut impl Write, kind: u8) -> io::Result<()> {
+fn name_of(kind: u8) -> &'static str {
     match kind {
-        1 => print(out, b"iden"),
-        2 => print(out, b"unit"),
-        3 => print(out, b"injl"),
-        4 => print(out, b"injr"),
-        5 => print(out, b"take"),
-        6 => print(out, b"drop"),
-        7 => print(out, b"comp"),
-        8 => print(out, b"case"),
-        9 => print(out, b"pair"),
-        10 => print(out, b"assertl"),
-        11 => print(out, b"assertr"),
-        12 => print(out, b"fail"),
-        13 => print(out, b"witness"),
-        14 => print(out, b"scribe"),
-        _ => print(out, b"jet"),
+        IDEN => "iden",
+        UNIT => "unit",
+        INJL => "injl",
+        INJR => "injr",
+        TAKE => "take",
+        DROP => "drop",
+        COMP => "comp",
+        CASE => "case",
+        PAIR => "pair",
+        ASSERTL => "assertl",
+        ASSERTR => "assertr",
+        FAIL => "fail",
+        WITNESS => "witness",
+        SCRIBE => "scribe",
+        _ => "jet",
     }
 }
 
 // How many operands a kind has.
 fn operands(kind: u8) -> usize {
     match kind {
-        1 | 2 | 12 => 0,
-        7..=11 | 13 => 2,
+        IDEN | UNIT | FAIL => 0,
+        COMP..=ASSERTR | WITNESS => 2,
         _ => 1,
     }
 }
 
 fn print_operand(out: &mut impl Write, low: u8, high: u8) -> io::Result<()> {
-    let operand = (low as u64) + 256 * (high as u64);
+    let operand = u16::from_le_bytes([low, high]);
     write!(out, " {operand}")
 }
 
@@ -57,10 +57,10 @@ fn print_operand(out: &mut impl Write, low: u8, high: u8) -> io::Result<()> {
 fn print_node(out: &mut impl Write, nodes: &[u8], k: usize) -> io::Result<()>
     requires { 5 * k + 5 ≤ length nodes.now }
 {
-    let at = 5 * k;
+    let at = ENTRY * k;
     let kind = nodes[at];
-    write!(out, "{k} ")?;
-    print_kind(out, kind)?;
+    let name = name_of(kind);
+    write!(out, "{k} {name}")?;
     let shown = operands(kind);
     if 0 < shown {
         print_operand(out, nodes[at + 1], nodes[at + 2])?;
@@ -68,7 +68,7 @@ fn print_node(out: &mut impl Write, nodes: &[u8], k: usize) -> io::Result<()>
     if 1 < shown {
         print_operand(out, nodes[at + 3], nodes[at + 4])?;
     }
-    print(out, b"\n")
+    out.write_all(b"\n")
 }
 
 fn print_nodes(out: &mut impl Write, nodes: &[u8], count: usize) -> io::Result<()>

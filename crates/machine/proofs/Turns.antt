@@ -6,7 +6,7 @@ use mathlib.Core.Bool.{true, false}
 use Prim.Native.Nat.{ℕ, suc, ◌+◌, ◌*◌, ◌-◌, ◌≤◌, ◌<◌}
 use native.Mathlib.Omega.{arith}
 use native.Mathlib.Numerals.{add-one}
-use lib.ListN.{length, get_or, set}
+use lib.ListN.{length, get_or, set, length-set}
 use Rattle.std.specs.Prelude.{Result, Ok, Err, IfOk}
 use Rattle.book.specs.declared.fault.Fault.TheVariants as faults
 use Rattle.machine.specs.declared.State.{State}
@@ -70,6 +70,7 @@ downed f d a m y u deep l =
     record {
       same = λ g t. rw (fuel d l, frames_put f d a deep l, waiting_put f d a deep l);
       depth = omega arith;
+      deep = length-set f d a;
       turned = rw (frames_put f d a deep l);
     }
 
@@ -143,6 +144,7 @@ module _ {g : Given} {c : List ℕ} {f : List Frame} {s : State} (z : s.step ≡
         t = 1;
         same = enter_future g c f s z l ∙ ap (λ (o : Out). add 1 o) (rw (e (run (DEEP - (s.depth + 1)) g)) (h.same g));
         depth = h.depth;
+        deep = h.deep;
         less = rw z h.less;
       }
 
@@ -154,6 +156,7 @@ entered_down {f = f} {s = s} a k y {c'} e dn =
     record {
       same = λ g. ap (λ (o : Out). resume g (DEEP - s.depth) (frames f s.depth) o) (e g (run (DEEP - (s.depth + 1)) g)) ∙ dn.same g c';
       depth = dn.depth;
+      deep = dn.deep;
       less = omega (arith, dn.turned, weight_le a);
     }
 
@@ -166,6 +169,7 @@ entered_hand {c} {f} {s} {m} {m'} {c'} {r} l e h =
       same = λ g.
           ap (λ (o : Out). resume g (DEEP - s.depth) (frames f s.depth) o) (e (run (DEEP - (s.depth + 1)) g)) ∙ h.same g (DEEP - s.depth) (frames f s.depth) (waiting f s.depth) ∙ outcome_at g c' f s.depth r h.depth;
       depth = depth_at s.depth r l h.depth;
+      deep = refl;
       less = less_at f s.depth _ r h.depth h.less (omega arith);
     }
 
@@ -193,6 +197,7 @@ module _ {g : Given} {c : List ℕ} {f : List Frame} {s : State} (z : s.step ≡
         t = 1;
         same = enter_future g c f s z l ∙ ap (λ (o : Out). add 1 o) (rw (e (run (DEEP - (s.depth + 1)) g)) (dn.same g c));
         depth = dn.depth;
+        deep = dn.deep;
         less = rw z (omega (arith, dn.turned, weight_le a));
       }
 
@@ -231,6 +236,7 @@ turned_steep {g} {c} {f} {s} {r} z e a =
       t = 0;
       same = p ∙ outcome_at g c f s.depth r h.depth ∙ sym (add_none _);
       depth = depth_at s.depth r (omega arith) h.depth;
+      deep = refl;
       less = rw z (less_at f s.depth _ r h.depth h.less (omega arith));
     }
 
@@ -262,6 +268,7 @@ module _ (g : Given) (c : List ℕ) (f : List Frame) (s : State) (e : ℕ) (a : 
         t = 0;
         same = back_future ∙ rw (q (run (DEEP - (e + 1)) g)) (dn.same g c) ∙ sym (add_none _);
         depth = dn.depth;
+        deep = dn.deep;
         less = rw back_turns (omega (arith, dn.turned));
       }
 
@@ -275,6 +282,7 @@ module _ (g : Given) (c : List ℕ) (f : List Frame) (s : State) (e : ℕ) (a : 
         t = 0;
         same = back_future ∙ rw (q (run (DEEP - (e + 1)) g)) (hd.same g (DEEP - e) (frames f e) (waiting f e)) ∙ outcome_at g c' f e r hd.depth ∙ sym (add_none _);
         depth = depth_at e r (omega arith) hd.depth;
+        deep = refl;
         less = less_at f e _ r hd.depth hd.less (omega (arith, back_turns, weight_pos a));
       }
 
@@ -316,16 +324,16 @@ unfolding future going_on resume frames waiting
 last_future g c f s e z = rw (e, z)
 
 module _ {g : Given} {c₀ : List ℕ} {f₀ : List Frame} {s₀ : State} {c : List ℕ} {f : List Frame} {s : State} (o : Going g c₀ f₀ s₀ c f s) where
-  pub going_more : {c' : List ℕ} {f' : List Frame} {n : Result State Halt} {r : State} → n ≡ Ok r → length c' ≡ length c → length f' ≡ length f
+  pub going_more : {c' : List ℕ} {f' : List Frame} {n : Result State Halt} {r : State} → n ≡ Ok r → length c' ≡ length c
       → Turned g c f s c' f' n → Going g c₀ f₀ s₀ c' f' r
   unfolding coming
-  going_more {c'} {f'} {n} {r} e lc lf h =
+  going_more {c'} {f'} {n} {r} e lc h =
       let t : Turned g c f s c' f' (Ok r) = rw e at h in
       record {
         t = o.t + t.t;
         same = o.same ∙ ap (λ (x : Out). add o.t x) t.same ∙ add_add o.t t.t _;
         depth = t.depth;
-        deep = lf ∙ o.deep;
+        deep = t.deep ∙ o.deep;
         table = lc ∙ o.table;
       }
 

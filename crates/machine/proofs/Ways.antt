@@ -124,15 +124,9 @@ module _ (g : Given) (n x : ℕ) (w : World) (kids : Runs) where
       unfolding by_kind
       branch_hidden_right l z = rw (e, z, pair_shape w.table x p, ← q, right_shape w.table y l)
 
--- the keys of the machine's match over kinds, and what its ranges are
+-- the keys of the machine's match over kinds, and what is none of its ranges
 abbrev pub SINGLE : List ℕ
 SINGLE = 1 ∷ 2 ∷ 3 ∷ 4 ∷ 7 ∷ 9 ∷ 8 ∷ 12 ∷ 13 ∷ 14 ∷ 15 ∷ []
-
-pub range_part : (k : ℕ) {K : Type 0} → Rest SINGLE k K → 1 ≤ k → k < 7 → (5 ≤ k) × (k ≤ 6)
-range_part k r a b = (omega (arith, r.0.0.0.0.0.0.0.1, r.0.0.0.0.0.0.0.0.1, r.0.0.0.0.0.0.0.0.0.1, r.0.0.0.0.0.0.0.0.0.0.1), omega arith)
-
-pub range_case : (k : ℕ) {K : Type 0} → Rest SINGLE k K → 7 ≤ k → k < 12 → Branches k
-range_case k r a b = inr (omega (arith, r.0.0.0.0.1, r.0.0.0.0.0.1, r.0.0.0.0.0.0.1), omega arith)
 
 pub range_none : (k : ℕ) {K : Type 0} → Rest SINGLE k K → (k < 1) ⊎ (12 ≤ k) → Rest (1 ∷ 2 ∷ 3 ∷ 4 ∷ 5 ∷ 6 ∷ 7 ∷ 8 ∷ 9 ∷ 10 ∷ 11 ∷ 12 ∷ 13 ∷ 14 ∷ 15 ∷ []) k (Unit {0})
 range_none k r o =

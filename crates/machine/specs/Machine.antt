@@ -1,9 +1,10 @@
 -- The machine by which the code runs a table: its frames say what is left to do, and each turn keeps what they lead to.
 -- Assumes nothing.
-use Rattle.std.specs.Prelude.{ℕ, zero, suc, ◌+◌, ◌*◌, ◌-◌, ◌≤◌, ◌<◌, ◌≡◌, ◌⊎◌, List, [], ◌∷◌, get_or, Result, Ok, Err, IfOk}
+use Rattle.std.specs.Prelude.{ℕ, zero, suc, ◌+◌, ◌*◌, ◌-◌, ◌≤◌, ◌<◌, ◌≡◌, ◌⊎◌, List, [], ◌∷◌, length, get_or, Result, Ok, Err, IfOk}
 use Rattle.book.specs.Valid.{Valid}
 use Rattle.book.specs.Text.{Text}
-use Rattle.nodes.specs.Given.{Given, cell_of}
+use Rattle.named.specs.Combinators.{CASE, ASSERTL, ASSERTR}
+use Rattle.nodes.specs.Given.{Given, given, cell_of}
 use Rattle.cells.specs.Cells.{left_cell, right_cell, pair_cell, World, world, newest, let_go, keeping, End, fails, refuses, Out, got, halt, add, bind, store}
 use Rattle.machine.specs.Run.{DEEP, Runs, right_of, run}
 use Rattle.cells.specs.Keeping.{leads}
@@ -11,6 +12,7 @@ use Rattle.cells.specs.declared.table.Kept.{Kept}
 use Rattle.cells.specs.declared.jets.JetEnd.{JetEnd}
 use Rattle.cells.specs.declared.jets.JetEnd.TheVariants as jets
 use Rattle.book.specs.declared.fault.Fault.TheVariants as faults
+use Rattle.machine.specs.declared.Lent.{Lent}
 use Rattle.machine.specs.declared.State.{State}
 use Rattle.machine.specs.declared.Step.{Step}
 use Rattle.machine.specs.declared.Step.TheVariants.{Enter, Back}
@@ -28,6 +30,14 @@ pub record Placed (b : Text) (row : List ℕ) : Type 0 where
 pub record Sound (b : Text) (row : List ℕ) : Type 0 where
   pub valid : Valid b.bytes b.index b.records
   pub placed : Placed b row
+
+-- what a run is given by what it is lent
+abbrev pub given_in : Lent → Given
+given_in l = given l.book.now l.witnesses.now l.nodes.now
+
+-- what the machine may rely on in what it is lent
+abbrev pub SoundIn : Lent → Type 0
+SoundIn l = Sound l.book.now l.row.now
 
 -- what a frame makes of an outcome, children running as `kids`: it hands the value on; it runs the other child on the value, or on the newest
 -- cell that waits, with the value waiting in its place; it stores the left, the right of the value, or the pair of the newest cell and the value
@@ -114,11 +124,13 @@ unfoldable pub turns : Step → List Frame → ℕ
 turns Enter fs = 2 + weights fs
 turns Back fs = 1 + weights fs
 
--- a turn: t nodes were entered, and what the machine leads to is otherwise the same
+-- a turn: t nodes were entered, and what the machine leads to is otherwise the same. That the frames stay as many stands here, since a proof
+-- knows the length of an array behind a `&mut` only up to a call that takes it
 pub record Turned (g : Given) (c : List ℕ) (f : List Frame) (s : State) (c' : List ℕ) (f' : List Frame) (r : Result State Halt) : Type 0 where
   pub t : ℕ
   pub same : future g c f s ≡ add t (coming g c' f' r)
   pub depth : IfOk r (λ s'. s'.depth ≤ DEEP)
+  pub deep : length f' ≡ length f
   pub less : IfOk r (λ s'. turns s'.step (frames f' s'.depth) < 4 * t + turns s.step (frames f s.depth))
 
 -- the frame a is put at depth d, and node m is to be entered on cell y
@@ -127,6 +139,7 @@ pub record Downed (f : List Frame) (d : ℕ) (a : Frame) (m y u : ℕ) (f' : Lis
       → resume g (DEEP - d) (frames f d) (apply g (run (DEEP - (d + 1)) g) a (run (DEEP - (d + 1)) g m y (world u t (holding a (waiting f d)))))
       ≡ future g t f' s'
   pub depth : s'.depth ≤ DEEP
+  pub deep : length f' ≡ length f
   pub turned : turns s'.step (frames f' s'.depth) ≡ 2 + (weight a + weights (frames f d))
 
 -- at depth d, with u cells used in the table t, m gave a value that is handed back, or ended the run
@@ -150,13 +163,19 @@ pub record Entered (c : List ℕ) (f : List Frame) (s : State) (m : Runs → Wor
   pub same : (g : Given)
       → resume g (DEEP - s.depth) (frames f s.depth) (m (run (DEEP - (s.depth + 1)) g) (world s.used c (waiting f s.depth))) ≡ coming g c' f' r
   pub depth : IfOk r (λ s'. s'.depth ≤ DEEP)
+  pub deep : length f' ≡ length f
   pub less : IfOk r (λ s'. turns s'.step (frames f' s'.depth) < 4 + (2 + weights (frames f s.depth)))
 
 -- a kind that takes a sum apart: a case or an assert
 abbrev pub Branches : ℕ → Type 0
-Branches k = (k ≡ 8) ⊎ ((10 ≤ k) × (k ≤ 11))
+Branches k = (k ≡ CASE) ⊎ ((ASSERTL ≤ k) × (k ≤ ASSERTR))
 
 -- the machine came to an end, t nodes on from where it began
 pub record Stopped (o : Out) (c' : List ℕ) (r : Result State Halt) : Type 0 where
   pub t : ℕ
   pub same : o ≡ add t (over_at c' r)
+
+-- from a start the machine came to an end; a run that had ended stays as it ended, and its cells as they were
+abbrev pub Driven : Given → List ℕ → List Frame → Result State Halt → List ℕ → Result State Halt → Type 0
+Driven g c f (Ok s) c' r = Stopped (future g c f s) c' r
+Driven g c f (Err h) c' r = (r ≡ Err h) × (c' ≡ c)

@@ -2,28 +2,31 @@
 // stack than another.
 #![tactic(auto)]
 
-ghost use Rattle.std.specs.Prelude.{◌≡◌, List, ℕ, ◌+◌, ◌≤◌, ◌<◌, length};
+ghost use Rattle.std.specs.Prelude.{◌≡◌, List, ℕ, ◌+◌, ◌≤◌, ◌<◌, IfOk};
 ghost use Rattle.simplicity.specs.Jets.{jet_on};
 ghost use Rattle.cells.specs.Entries.{kind_at};
 ghost use Rattle.cells.specs.Cells.{shape_at, got, halt, deliver};
 ghost use Rattle.book.specs.Text.{Text, text};
+ghost use Rattle.named.specs.Combinators.{TAKE, DROP};
 ghost use Rattle.nodes.specs.Given.{given};
 ghost use Rattle.machine.specs.Run.{DEEP, hand_on, witnessed};
-ghost use Rattle.machine.specs.Machine.{Answers, Backs, Branches, Downed, Entered, Handed, Sound, Stopped, Turned, end_of, ended_by, future};
+ghost use Rattle.machine.specs.Machine.{Answers, Backs, Branches, Downed, Driven, Entered, Handed, SoundIn, Turned, end_of, ended_by, given_in};
 
 use book::fault::Fault;
 use book::record::Book;
 use book::word::word;
 use cells::jets::{JetEnd, run_jet};
 use cells::table::{Kept, LEFT, PAIR, RIGHT, from, keep, kind_at, left_at, right_at};
+use named::node;
 use nodes::given::{entry, is_typed};
 
-// How deep a node may be entered.
-const DEEPEST: usize = 4096;
+// How deep a node may be entered, and how many frames there are room for.
+pub const DEEPEST: usize = 4096;
 
-// What a run is lent beside the book: the witness list, the cell of each value record, and the node table.
+// What a run is lent: the book, the witness list, the cell of each value record, and the node table.
 #[derive(Clone, Copy)]
 pub struct Lent<'a> {
+    pub book: &'a Book<'a>,
     pub witnesses: &'a [u8],
     pub row: &'a [u16],
     pub nodes: &'a [u8],
@@ -127,9 +130,8 @@ impl State {
 }
 
 // Puts a frame at the state's depth, and goes on to node m on cell y.
-fn down(frames: &mut [Frame], s: State, frame: Frame, m: u16, y: u16) -> State
-    requires depth_in_range { s.depth < DEEP }
-    requires deep { length frames.old ≡ DEEP }
+fn down(frames: &mut [Frame; DEEPEST], s: State, frame: Frame, m: u16, y: u16) -> State
+    requires { s.depth < DEEP }
     ensures { Downed frames.old s.depth frame m y s.used frames.new result }
 {
     let d = s.depth;
@@ -147,13 +149,12 @@ fn down(frames: &mut [Frame], s: State, frame: Frame, m: u16, y: u16) -> State
 fn enter_part(
     nodes: &[u8],
     cells: &[u8],
-    frames: &mut [Frame],
+    frames: &mut [Frame; DEEPEST],
     s: State,
     kind: u8,
 ) -> Result<State, Halt>
     requires step_is { (s.step ≡ Step.Enter) × (s.depth < DEEP) }
-    requires deep { length frames.old ≡ DEEP }
-    requires kind_at_is { (kind_at nodes.now s.node ≡ kind) × ((5 ≤ kind) × (kind ≤ 6)) }
+    requires kind_at_is { (kind_at nodes.now s.node ≡ kind) × ((TAKE ≤ kind) × (kind ≤ DROP)) }
     ensures { (b : Text) (ws : List ℕ) → Turned (given b ws nodes.now) cells.now frames.old s cells.now frames.new result }
 {
     let x = s.value;
@@ -161,7 +162,7 @@ fn enter_part(
         return Err(s.halt(Ended::Refused(Fault::Stuck)));
     }
     let m = left_at(nodes, s.node);
-    if kind == 5 {
+    if kind == node::TAKE {
         return Ok(down(frames, s, Frame::Skip, m, left_at(cells, x)));
     }
     Ok(down(frames, s, Frame::Skip, m, right_at(cells, x)))
@@ -170,14 +171,13 @@ fn enter_part(
 // Hands child m the pair of a sum's part a and the rest e.
 fn hand_on(
     cells: &mut [u8],
-    frames: &mut [Frame],
+    frames: &mut [Frame; DEEPEST],
     s: State,
     m: u16,
     a: u16,
     e: u16,
 ) -> Result<State, Halt>
-    requires depth_in_range { s.depth < DEEP }
-    requires deep { length frames.old ≡ DEEP }
+    requires { s.depth < DEEP }
     ensures { Entered cells.old frames.old s (λ kids. hand_on s.node a e (kids m)) cells.new frames.new result }
 {
     let p = keep(cells, from(s.used), PAIR, a, e);
@@ -192,12 +192,11 @@ fn hand_on(
 fn enter_case(
     nodes: &[u8],
     cells: &mut [u8],
-    frames: &mut [Frame],
+    frames: &mut [Frame; DEEPEST],
     s: State,
     kind: u8,
 ) -> Result<State, Halt>
     requires step_is { (s.step ≡ Step.Enter) × (s.depth < DEEP) }
-    requires deep { length frames.old ≡ DEEP }
     requires kind_at_is { (kind_at nodes.now s.node ≡ kind) × Branches kind }
     ensures { (b : Text) (ws : List ℕ) → Turned (given b ws nodes.now) cells.old frames.old s cells.new frames.new result }
 {
@@ -210,20 +209,21 @@ fn enter_case(
     let a = left_at(cells, sum);
     let e = right_at(cells, x);
     match side {
-        LEFT if kind == 11 => Err(s.halt(Ended::Failed)),
+        LEFT if kind == node::ASSERTR => Err(s.halt(Ended::Failed)),
         LEFT => hand_on(cells, frames, s, left_at(nodes, s.node), a, e),
-        RIGHT if kind == 10 => Err(s.halt(Ended::Failed)),
+        RIGHT if kind == node::ASSERTL => Err(s.halt(Ended::Failed)),
         RIGHT => hand_on(cells, frames, s, right_at(nodes, s.node), a, e),
         _ => Err(s.halt(Ended::Refused(Fault::Stuck))),
     }
 }
 
 // A witness: its name's entry, if it is of its type.
-fn enter_witness(book: &Book, lent: &Lent, s: State) -> Result<State, Halt>
-    requires { Sound book.now lent.now.row.now }
-    ensures { Answers s (witnessed (given book.now lent.now.witnesses.now lent.now.nodes.now) s.node) result }
+fn enter_witness(lent: &Lent, s: State) -> Result<State, Halt>
+    requires { SoundIn lent.now }
+    ensures { Answers s (witnessed (given_in lent.now) s.node) result }
 {
     let Lent {
+        book,
         witnesses,
         row,
         nodes,
@@ -251,16 +251,14 @@ fn enter_jet(cells: &mut [u8], s: State, j: u16) -> Result<State, Halt>
 
 // Enters the node of the state.
 fn enter(
-    book: &Book,
     lent: &Lent,
     cells: &mut [u8],
-    frames: &mut [Frame],
+    frames: &mut [Frame; DEEPEST],
     s: State,
 ) -> Result<State, Halt>
-    requires sound { Sound book.now lent.now.row.now }
-    requires deep { length frames.old ≡ DEEP }
+    requires sound { SoundIn lent.now }
     requires step_is { (s.step ≡ Step.Enter) × (s.depth ≤ DEEP) }
-    ensures { Turned (given book.now lent.now.witnesses.now lent.now.nodes.now) cells.old frames.old s cells.new frames.new result }
+    ensures { Turned (given_in lent.now) cells.old frames.old s cells.new frames.new result }
 {
     if s.depth >= DEEPEST {
         return Err(s.halt(Ended::Refused(Fault::Steep)));
@@ -270,32 +268,36 @@ fn enter(
     let x = s.value;
     let kind = kind_at(nodes, n);
     match kind {
-        1 => Ok(s.back(x)),
-        2 => Ok(s.back(0)),
-        3 => Ok(down(frames, s, Frame::Lefted { node: n }, left_at(nodes, n), x)),
-        4 => Ok(down(frames, s, Frame::Righted { node: n }, left_at(nodes, n), x)),
-        5..=6 => enter_part(nodes, cells, frames, s, kind),
-        7 => Ok(down(frames, s, Frame::Second { node: n }, left_at(nodes, n), x)),
-        9 => Ok(down(
+        node::IDEN => Ok(s.back(x)),
+        node::UNIT => Ok(s.back(0)),
+        node::INJL => Ok(down(frames, s, Frame::Lefted { node: n }, left_at(nodes, n), x)),
+        node::INJR => Ok(down(frames, s, Frame::Righted { node: n }, left_at(nodes, n), x)),
+        node::TAKE..=node::DROP => enter_part(nodes, cells, frames, s, kind),
+        node::COMP => Ok(down(frames, s, Frame::Second { node: n }, left_at(nodes, n), x)),
+        node::PAIR => Ok(down(
             frames,
             s,
             Frame::Beside { node: n, held: x },
             left_at(nodes, n),
             x,
         )),
-        8..=11 => enter_case(nodes, cells, frames, s, kind),
-        12 => Err(s.halt(Ended::Failed)),
-        13 => enter_witness(book, lent, s),
-        14 => Ok(s.back(entry(lent.row, left_at(nodes, n)))),
-        15 => enter_jet(cells, s, left_at(nodes, n)),
+        node::CASE..=node::ASSERTR => enter_case(nodes, cells, frames, s, kind),
+        node::FAIL => Err(s.halt(Ended::Failed)),
+        node::WITNESS => enter_witness(lent, s),
+        node::SCRIBE => Ok(s.back(entry(lent.row, left_at(nodes, n)))),
+        node::JET => enter_jet(cells, s, left_at(nodes, n)),
         _ => Err(s.halt(Ended::Refused(Fault::Stuck))),
     }
 }
 
 // Hands the state's cell back to the newest frame.
-fn back_to(nodes: &[u8], cells: &mut [u8], frames: &mut [Frame], s: State) -> Result<State, Halt>
-    requires deep { length frames.old ≡ DEEP }
-    requires step_is { (s.step ≡ Step.Back) × ((s.depth ≡ 0 → ⊥) × (s.depth ≤ DEEP)) }
+fn back_to(
+    nodes: &[u8],
+    cells: &mut [u8],
+    frames: &mut [Frame; DEEPEST],
+    s: State,
+) -> Result<State, Halt>
+    requires { (s.step ≡ Step.Back) × ((s.depth ≡ 0 → ⊥) × (s.depth ≤ DEEP)) }
     ensures { (b : Text) (ws : List ℕ) → Turned (given b ws nodes.now) cells.old frames.old s cells.new frames.new result }
 {
     let d = s.depth - 1;
@@ -324,23 +326,22 @@ fn back_to(nodes: &[u8], cells: &mut [u8], frames: &mut [Frame], s: State) -> Re
     }
 }
 
-// Turns until the run has ended, with the cell that is handed back last, or without one.
+// Turns until the run has ended, with the cell that is handed back last, or without one. A run that had ended stays as it ended.
 pub fn drive(
-    book: &Book,
     lent: &Lent,
     cells: &mut [u8],
-    frames: &mut [Frame],
-    start: State,
+    frames: &mut [Frame; DEEPEST],
+    start: Result<State, Halt>,
 ) -> Result<State, Halt>
-    requires sound { Sound book.now lent.now.row.now }
-    requires deep { length frames.old ≡ DEEP }
-    requires start_depth_in_range { start.depth ≤ DEEP }
-    ensures { Stopped (future (given book.now lent.now.witnesses.now lent.now.nodes.now) cells.old frames.old start) cells.new result }
+    requires sound { SoundIn lent.now }
+    requires start_depth_in_range { IfOk start (λ s. s.depth ≤ DEEP) }
+    ensures { Driven (given_in lent.now) cells.old frames.old start cells.new result }
 {
-    let mut s = start;
+    let mut s = start?;
+    // No `for`: how many turns a run takes is known only once it has ended.
     'turns: loop {
         let next = match s.step {
-            Step::Enter => enter(book, lent, cells, frames, s),
+            Step::Enter => enter(lent, cells, frames, s),
             Step::Back => {
                 if s.depth == 0 {
                     return Ok(s);

@@ -43,7 +43,8 @@ pub record AsMeant (a : RunAnswer) (t : List ℕ) (o : Outcome) (d : Ty) : Type 
   -- no refusal but for want of depth or cells
   pub refused_is : (w : Refusal) → a ≡ Err w → (fault_number w.fault ≡ 16) ⊎ (fault_number w.fault ≡ 18)
 
--- a book b that CHECK passes; LOWER, with symbols or without (y), accepts it in a table of m bytes; each witness is supplied by ws; no hash is reached; k bytes for cells: RUN on LOWER's table is as meant
+-- a book b that CHECK passes; LOWER, with symbols or without (y), accepts it in a table of m bytes; each witness is supplied by ws;
+-- no hash is reached; k bytes for cells: RUN on LOWER's table is as meant
 abbrev pub Demand3 : Type 0
 Demand3 = (b ws : List ℕ) (n m c k : ℕ) (y : Bool)
     → check_of b ≡ Ok n → lower_of b y m ≡ Ok c → Supplied b n ws → (source_of b n ws ≡ missing → ⊥)

@@ -47,7 +47,7 @@ fn put_parts(row: &mut [u16], count: usize, kind: u8, left: u16, right: u16) -> 
 }
 
 // Whether a cell has the value that is due. In the row wait the cells that are yet to be compared, the next one last: each kind takes
-// one, and puts at most two.
+// one, and puts at most two. A row and a count, since there is no heap.
 fn is_value_within(cells: &[u8], cell: u16, due: &[u8], row: &mut [u16]) -> bool
     requires { length due.now < length row.old }
 {

@@ -1,12 +1,7 @@
 -- Laws of what is built of nodes: bits, selectors, wraps along a path, rows.
 -- Assumes nothing.
-use Prim.Native.Nat.{ℕ, zero, suc, ◌-◌, ◌≤◌, ◌<◌}
-use mathlib.Core.Bool.{Bool, true, false}
-use mathlib.Core.Path.{◌≡◌, refl}
-use mathlib.Core.List.{List, [], ◌∷◌, map}
-use native.Mathlib.Omega.{arith}
-use lib.ListN.{length, get_or, take, drop}
-use lib.Seq.{drop-cons, drop-length}
+use Rattle.std.proofs.Common.{ℕ, zero, suc, ◌-◌, ◌≤◌, ◌<◌, Bool, true, false, ◌≡◌, refl, List, [], ◌∷◌, map, arith, length, get_or, take, drop, drop-cons, Result, Ok, Err}
+use Rattle.std.proofs.Math.Seq.{drop-length}
 use Rattle.laws.specs.Rows.{map_length, map_take, map_drop}
 use Rattle.array.specs.Split.{split_of}
 use Rattle.array.specs.Path.{path}
@@ -14,11 +9,10 @@ use Rattle.array.proofs.Paths.{path_one, path_left, path_right}
 use Rattle.array.proofs.Rows.{row_none, row_one, row_step}
 use Rattle.named.specs.Trace.{pure, bind, emit}
 use Rattle.named.specs.Combinators.{unit, injl, injr, bit, kinds, wraps, joined, joins}
-use Rattle.std.specs.Prelude.{Result, Ok, Err}
 use Rattle.book.specs.declared.fault.Refusal.{Refusal}
 use Rattle.named.specs.Stores.{Done}
 use Rattle.named.specs.Table.{Table}
-use Rattle.named.proofs.Storing.{then, halt, done_pure}
+use Rattle.named.proofs.Storing.{then, halt, handed, done_pure}
 
 -- a bit is unit, and then the side that it says
 pub bit_is : (r : ℕ) {v : Bool} → v ≡ true → bit r v ≡ bind (unit r) (λ u. injr r u)
@@ -45,11 +39,14 @@ module _ (r a : ℕ) {d : Table} (ks : List ℕ) where
       let z : k ≡ suc j = omega arith in
       rw (drop-cons ks j 0 (omega arith)) (then (λ b. emit r (get_or ks j 0) b 0) (rw z at p) q)
 
-  -- where one is refused, so are all
-  pub steps_stop : {d₁ : Table} {w : Refusal} (k : ℕ) → k ≤ length ks → Done d (wraps r (drop k ks) a) (Err w) d₁ → Done d (wraps r ks a) (Err w) d₁
+  steps_stop : {d₁ : Table} {w : Refusal} (k : ℕ) → k ≤ length ks → Done d (wraps r (drop k ks) a) (Err w) d₁ → Done d (wraps r ks a) (Err w) d₁
   unfolding wraps
   steps_stop zero h p = p
   steps_stop (suc k) h p = steps_stop k (omega arith) (rw (drop-cons ks k 0 (omega arith)) (halt (λ b. emit r (get_or ks k 0) b 0) p))
+
+  -- where one is refused, so are all
+  pub steps_halt : {d₁ d₂ : Table} {b : ℕ} {w : Refusal} (j k : ℕ) → k ≤ length ks → 0 < k → j ≡ k - 1 → Done d (wraps r (drop k ks) a) (Ok b) d₁ → Done d₁ (emit r (get_or ks j 0) b 0) (Err w) d₂ → Done d (wraps r ks a) (Err w) d₂
+  steps_halt j k h o e p q = steps_stop j (omega arith) (steps_next j k h o e p q)
 
 -- a node along the path to element k of n
 module _ (r l g n k a : ℕ) where
@@ -61,9 +58,9 @@ module _ (r l g n k a : ℕ) where
   unfolding wraps
   along_left e two h = rw (path_left n k two (rw e at h), ← e) refl
 
-  pub along_right : {c : ℕ} → c ≡ split_of n → 2 ≤ n → c ≤ k → wraps r (kinds l g (path n k)) a ≡ bind (wraps r (kinds l g (path (n - c) (k - c))) a) (λ b. emit r g b 0)
+  pub along_right : {c m j : ℕ} → c ≡ split_of n → 2 ≤ n → c ≤ k → m ≡ n - c → j ≡ k - c → wraps r (kinds l g (path n k)) a ≡ bind (wraps r (kinds l g (path m j)) a) (λ b. emit r g b 0)
   unfolding wraps
-  along_right e two h = rw (path_right n k two (rw e at h), ← e) refl
+  along_right e two h o p = rw (path_right n k two (rw e at h), o, p, e) refl
 
 -- rows of nodes: none, one, and two parts
 module _ (r kind : ℕ) where
@@ -100,3 +97,6 @@ module _ (r kind : ℕ) (xs : List ℕ) where
   -- two or more: the parts that it splits into, and then the node that joins them
   pub join_more : {c : ℕ} {ls gs : List ℕ} → 2 ≤ length xs → c ≡ split_of (length xs) → ls ≡ take c xs → gs ≡ drop c xs → joins r kind xs ≡ joined (emit r kind) (joins r kind ls) (joins r kind gs)
   join_more two e l g = rw (l, g, e) (joins_step r kind xs two)
+
+-- what the check is given to prove the functions that build them
+pub ruleset builds = (then, halt, handed, done_pure, bit_is, bit_not, bit_halts, steps_none, steps_next, steps_halt, along_one, along_left, along_right, join_none, join_one, join_more)

@@ -1,4 +1,6 @@
 // What is built of nodes everywhere: bits, selectors, rows.
+#![tactic(auto, using(crate::proofs::Builds::builds), unfolding(crate::specs::Combinators::select, crate::specs::Combinators::applied))]
+
 ghost use Rattle.std.specs.Prelude.{◌<◌, ◌≤◌, length};
 ghost use Rattle.array.specs.Path.{path};
 ghost use Rattle.named.specs.Combinators.{bit, kinds, wraps, select, joins, applied};

@@ -1,5 +1,5 @@
 // Nodes: five bytes each in a lent table, stored one after another.
-use crate::entry::write_entry;
+use crate::entry::{ENTRY, write_entry};
 use book::fault::{Fault, Refusal};
 
 // The kinds of nodes: document 01, Stored order. They are numbers and no enum: they are bytes of the table, and document 01 has RUN and the
@@ -34,8 +34,8 @@ pub const SCRIBE: u8 = 14;
 
 pub const JET: u8 = 15;
 
-// A lent table, and the number of its next node; clauses name both. It has no model: from a model a caller would not learn that what its
-// functions store, they store into the bytes that were lent.
+// A lent table, and the number of its next node, which is how many there are; clauses name both. It has no model: from a model a caller
+// would not learn that what its functions store, they store into the bytes that were lent.
 #[derive(Drop)]
 pub struct Nodes<'a> {
     pub bytes: &'a mut [u8],
@@ -56,24 +56,19 @@ impl<'a> Nodes<'a> {
         Nodes { bytes, next: 0 }
     }
 
-    // How many nodes there are.
-    pub fn count(&self) -> u16
-        ensures { result ≡ self.now.next }
-    {
-        self.next
-    }
-
     // How many nodes more there is room for: document 01, Stored order.
+    #[tactic(auto, unfolding(crate::specs::Cut::room))]
     pub fn room(&self) -> usize
         ensures { result ≡ room (length self.now.bytes.now) - self.now.next }
     {
-        (self.bytes.len() / 5)
+        (self.bytes.len() / ENTRY)
             .min(65535)
             .saturating_sub(self.next as usize)
     }
 
     // Stores a node for a record, if there is room for it, and answers its number. The record is an argument and no field: it changes with
     // each step of LOWER, while the table stays.
+    #[tactic(auto, using(crate::proofs::Storing::put_fits, crate::proofs::Storing::put_full), unfolding(crate::specs::Cut::room))]
     pub fn put(&mut self, place: u16, kind: u8, left: u16, right: u16) -> Result<u16, Refusal>
         ensures { Done self.old (emit place kind left right) result self.new }
     {

@@ -1,6 +1,6 @@
 // The check of a node table: its first malformed node.
 ghost use Rattle.std.specs.Prelude.{◌≡◌, ◌<◌, ◌≤◌};
-ghost use Rattle.book.specs.Valid.{Valid};
+ghost use Rattle.book.specs.Books.{ValidIn};
 ghost use Rattle.book.specs.Text.{text};
 ghost use Rattle.nodes.specs.Nodes.{roles, roles_of, operand_at, role_at, fits, first_bad, judge};
 
@@ -8,6 +8,10 @@ use crate::given::is_of;
 use book::format::{TYPE, VALUE};
 use book::record::Book;
 use cells::table::{kind_at, left_at, right_at};
+use named::entry::ENTRY;
+use named::node::{
+    ASSERTL, ASSERTR, COMP, DROP, FAIL, IDEN, INJL, JET, PAIR, SCRIBE, UNIT, WITNESS,
+};
 
 // What an operand must be: anything, a child, a type's or a value's record, a jet. Nothing is right where the kind is bad.
 #[derive(Clone, Copy, PartialEq, Eq)]
@@ -36,19 +40,20 @@ impl Roles {
 }
 
 // The roles of a kind's operands.
+#[tactic(auto, unfolding(crate::specs::Nodes::roles_of))]
 fn roles_of(kind: u8) -> Roles
     ensures { result ≡ roles_of kind }
 {
     match kind {
-        1..=2 => Roles::of(Role::Free, Role::Free),
-        3..=6 => Roles::of(Role::Child, Role::Free),
-        7..=9 => Roles::of(Role::Child, Role::Child),
-        10 => Roles::of(Role::Child, Role::Free),
-        11 => Roles::of(Role::Free, Role::Child),
-        12 => Roles::of(Role::Free, Role::Free),
-        13 => Roles::of(Role::Free, Role::OfType),
-        14 => Roles::of(Role::OfValue, Role::Free),
-        15 => Roles::of(Role::OfJet, Role::Free),
+        IDEN..=UNIT => Roles::of(Role::Free, Role::Free),
+        INJL..=DROP => Roles::of(Role::Child, Role::Free),
+        COMP..=PAIR => Roles::of(Role::Child, Role::Child),
+        ASSERTL => Roles::of(Role::Child, Role::Free),
+        ASSERTR => Roles::of(Role::Free, Role::Child),
+        FAIL => Roles::of(Role::Free, Role::Free),
+        WITNESS => Roles::of(Role::Free, Role::OfType),
+        SCRIBE => Roles::of(Role::OfValue, Role::Free),
+        JET => Roles::of(Role::OfJet, Role::Free),
         _ => Roles::of(Role::Never, Role::Never),
     }
 }
@@ -73,8 +78,9 @@ fn operand(nodes: &[u8], n: u16, k: usize) -> u16
 }
 
 // Whether operand x of node n is what its role says.
+#[tactic(auto, unfolding(crate::specs::Nodes::fits))]
 fn fits_role(book: &Book, role: Role, n: u16, x: u16) -> bool
-    requires { Valid book.now.bytes book.now.index book.now.records }
+    requires { ValidIn book.now }
     ensures { result ≡ fits book.now role n x }
 {
     match role {
@@ -90,7 +96,7 @@ fn fits_role(book: &Book, role: Role, n: u16, x: u16) -> bool
 // The first of `count` nodes with an operand that is not what its role says, or `count`. Document 01 names the form: a scan with an inner
 // scan, left by a label.
 fn first_bad(book: &Book, nodes: &[u8], count: u16) -> u16
-    requires { Valid book.now.bytes book.now.index book.now.records }
+    requires { ValidIn book.now }
     ensures { result ≡ first_bad book.now nodes.now 0 count }
 {
     let mut n: u16 = 0;
@@ -99,12 +105,10 @@ fn first_bad(book: &Book, nodes: &[u8], count: u16) -> u16
             break 'scan count;
         }
         let kind = kind_at(nodes, n);
-        let mut k: usize = 0;
-        while k < 2 {
+        for k in 0..2usize {
             if !fits_role(book, role_at(kind, k), n, operand(nodes, n, k)) {
                 break 'scan n;
             }
-            k += 1;
         }
         n += 1;
     }
@@ -112,7 +116,7 @@ fn first_bad(book: &Book, nodes: &[u8], count: u16) -> u16
 
 // The check of a table of `count` nodes: where it is not well formed.
 pub fn judge_table(book: &Book, nodes: &[u8], count: u32) -> Result<(), u16>
-    requires { Valid book.now.bytes book.now.index book.now.records }
+    requires { ValidIn book.now }
     ensures { result ≡ judge book.now nodes.now count }
 {
     if count == 0 {
@@ -121,7 +125,7 @@ pub fn judge_table(book: &Book, nodes: &[u8], count: u32) -> Result<(), u16>
     if count > 65535 {
         return Err(65535);
     }
-    let present = nodes.len() / 5;
+    let present = nodes.len() / ENTRY;
     if present < (count as usize) {
         return Err(present as u16);
     }

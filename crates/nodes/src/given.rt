@@ -1,6 +1,6 @@
 // What a run is given: records of the book by their kind, and the cells of its values.
 ghost use Rattle.std.specs.Prelude.{◌≡◌, get_or};
-ghost use Rattle.book.specs.Valid.{Valid};
+ghost use Rattle.book.specs.Books.{ValidIn};
 ghost use Rattle.book.specs.Text.{text};
 ghost use Rattle.nodes.specs.Given.{holds, typed};
 
@@ -9,7 +9,7 @@ use book::record::Book;
 
 // Whether r is a record of the book, and of the kind.
 pub fn is_of(book: &Book, kind: u8, r: u16) -> bool
-    requires { Valid book.now.bytes book.now.index book.now.records }
+    requires { ValidIn book.now }
     ensures { result ≡ holds book.now kind r }
 {
     r < book.records() && kind_of(book.mark_at(r)) == kind
@@ -17,7 +17,7 @@ pub fn is_of(book: &Book, kind: u8, r: u16) -> bool
 
 // Whether r is a value record of the type whose record is t.
 pub fn is_typed(book: &Book, r: u16, t: u16) -> bool
-    requires { Valid book.now.bytes book.now.index book.now.records }
+    requires { ValidIn book.now }
     ensures { result ≡ typed book.now r t }
 {
     is_of(book, VALUE, r) && book.field_at(r, 0) == t

@@ -1,3 +1,4 @@
+pub mod Blocks
 mod Ends
 mod Lists
 pub mod Marks

@@ -1,12 +1,13 @@
 -- What is stored around expressions, by the mark of the record.
 -- Assumes nothing.
-use Rattle.std.specs.Prelude.{ℕ, zero, suc, ◌+◌, ◌*◌, ◌^◌, ◌≤◌, ◌<◌, Bool, not, ◌≡◌, List, [], ◌∷◌, length, get_or, eqb, leb}
+use Rattle.std.specs.Prelude.{ℕ, zero, suc, ◌+◌, ◌*◌, ◌^◌, ◌≤◌, ◌<◌, Bool, not, ◌≡◌, List, [], ◌∷◌, length, get_or, eqb, leb, Option, None, Some}
 use Rattle.laws.specs.Table.{pick, both, Case, at, choose, among}
 use Rattle.array.specs.Path.{path}
 use Rattle.array.specs.Split.{top_of}
 use Rattle.book.specs.Format.{EXPRESSION, STATEMENT, ET, EL, E0, E1, EN, SA, EH, CJ, CL, CR, CD, CA, CP, CN, CK, CF, CQ, CY, CW, CH}
 use Rattle.book.specs.Index.{mark, field}
 use Rattle.book.specs.Stands.{Stands}
+use Rattle.book.specs.Text.{Text}
 use Rattle.book.specs.Tree.{group}
 use Rattle.named.specs.Trace.{Run, pure, bind}
 use Rattle.named.specs.Combinators as node
@@ -22,6 +23,9 @@ use Rattle.parts.specs.declared.view.Span.{Span}
 pub record Marked (b i : List ℕ) (r m : ℕ) : Type 0 where
   pub stands : Stands b i r EXPRESSION
   pub is : mark b i r ≡ m
+
+abbrev pub MarkedIn : Text → ℕ → ℕ → Type 0
+MarkedIn x r m = Marked x.bytes x.index r m
 
 -- a statement's record
 abbrev pub Stated : List ℕ → List ℕ → ℕ → Type 0
@@ -130,6 +134,10 @@ module _ (b i : List ℕ) (r m : ℕ) where
 
   unfoldable pub plain_run : Run ℕ
   plain_run = choose bodies m (hashes.raw_hash r (widths_row b i r 3 (field b i r 2)))
+
+-- document 01, The book, eb: the expression that ends a block whose fields hold x, if it has one
+unfoldable pub block_end : (ℕ → ℕ) → Option ℕ
+block_end x = let e = x (2 + x 1) in pick (eqb e 65535) None (Some e)
 
 -- what is stored for statement s after the rest of its block: a is the node that was stored before it, e the rest's
 unfoldable pub close_run : List ℕ → List ℕ → ℕ → ℕ → ℕ → Run ℕ

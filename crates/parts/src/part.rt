@@ -140,7 +140,7 @@ pub fn choose_arm(r: u16, scrutinee: u16, cases: u16, nodes: &mut Nodes) -> Resu
     nodes.put(r, COMP, input, cases)
 }
 
-// The symbol of a call, 0 where its mark has none.
+// The symbol of a call, 0 where its mark has none: a book itself has 0 for a call without a symbol, so an Option would say it in two ways.
 fn symbol_of(book: &Book, r: u16, m: u8) -> u16
     requires { Marked book.now.bytes book.now.index r m }
     ensures { result ≡ symbol_at m (field book.now.bytes book.now.index r) }

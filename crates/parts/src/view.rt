@@ -1,7 +1,8 @@
 // What a record's fields say, by its mark.
 ghost use Rattle.std.specs.Prelude.{◌≡◌, ◌+◌};
+ghost use Rattle.book.specs.Format.{EB};
 ghost use Rattle.book.specs.Index.{field, Lies};
-ghost use Rattle.parts.specs.Parts.{Marked, Spanned, is_call, is_functional, span};
+ghost use Rattle.parts.specs.Parts.{Marked, Spanned, is_call, is_functional, span, block_end};
 
 use book::format::{CA, CD, CF, CH, CJ, CK, CL, CN, CQ, CR, CW, CY, E0, E1, EH, EL, EN, ET};
 use book::record::Book;
@@ -87,4 +88,17 @@ pub fn arm_at(book: &Book, r: u16, k: usize) -> Arm
 {
     let (pattern, body) = book.pair_at(r, k);
     Arm { pattern, body }
+}
+
+// The expression that ends a block, if it has one: the book has 65535 where it has none.
+pub fn end_of(book: &Book, r: u16) -> Option<u16>
+    requires { Marked book.now.bytes book.now.index r EB }
+    ensures { result ≡ block_end (field book.now.bytes book.now.index r) }
+{
+    let n = book.field_at(r, 1) as usize;
+    let end = book.field_at(r, 2 + n);
+    if end == 65535 {
+        return None;
+    }
+    Some(end)
 }

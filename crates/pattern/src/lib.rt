@@ -29,6 +29,7 @@ pub enum Near {
 // Searches a pattern from the left. Patterns share their parts, so that a pattern may have more places than could ever be visited:
 // `missing` says of each record whether this name was already sought there in vain, and no such record is entered again.
 #[cycle(seeking)]
+#[tactic(auto, using(crate::proofs::Searches::entries))]
 pub fn get_from(
     book: &Book,
     p: u16,
@@ -119,8 +120,9 @@ pub fn get_shallow(
     }
 }
 
-// The elements of a row from the left, up to the first that is a row itself. `get_row` is its like with a row of vain searches: one
-// function for both would ask at each element whether there is such a row, and this one was made for speed.
+// The elements of a row from the left, up to the first that is a row itself. `get_row` is its like with a row of vain searches, but that
+// one enters each row within, and this one none: one function for both would call itself, be told whether it may, and answer three ways
+// where `get_row` has two.
 fn get_among(book: &Book, p: u16, name: u16, nodes: &mut Nodes, place: u16) -> Result<Near, Refusal>
     requires stands { Stands book.now.bytes book.now.index p PATTERN }
     requires mark_is { mark book.now.bytes book.now.index p ≡ PT }
@@ -142,6 +144,7 @@ fn get_among(book: &Book, p: u16, name: u16, nodes: &mut Nodes, place: u16) -> R
 }
 
 // A pattern that is no row: a name, or nothing named.
+#[tactic(auto, using(crate::proofs::Searches::singles))]
 fn get_single(
     book: &Book,
     p: u16,

@@ -6,16 +6,6 @@ use Rattle.book.specs.declared.fault.Refusal.{Refusal}
 use Rattle.probe.specs.declared.Outcome.{Outcome}
 
 -- document 01, Refusals by number: a success is number 0 at place 0 with its count; a refusal has count 0
-abbrev pub counted : ℕ → Outcome
-counted n = record { number = 0; place = 0; count = n }
-
-abbrev pub refused : Refusal → Outcome
-refused w = record { number = fault_number w.fault; place = w.place; count = 0 }
-
-abbrev pub read_outcome : Result ℕ Refusal → Outcome
-read_outcome (Ok n) = counted n
-read_outcome (Err w) = refused w
-
-abbrev pub check_outcome : Result ℕ Refusal → Outcome
-check_outcome (Ok n) = counted n
-check_outcome (Err w) = refused w
+abbrev pub outcome_of : Result ℕ Refusal → Outcome
+outcome_of (Ok n) = record { number = 0; place = 0; count = n }
+outcome_of (Err w) = record { number = fault_number w.fault; place = w.place; count = 0 }

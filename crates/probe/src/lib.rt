@@ -4,13 +4,13 @@
 ghost use Rattle.std.specs.Prelude.{◌≡◌};
 ghost use Rattle.book.specs.Read.{read_of};
 ghost use Rattle.typing.specs.Whole.{check_of};
-ghost use Rattle.probe.specs.Outcome.{counted, refused, read_outcome, check_outcome};
+ghost use Rattle.probe.specs.Outcome.{outcome_of};
 
 use book::fault::{Refusal, fault_number};
 use book::read::read;
 use typing::check;
 
-// An answer in numbers: a success is number 0 at place 0 with its count of records; a refusal has count 0.
+// An answer in numbers, for which `host` has a struct of its own: the C interface needs both.
 #[repr(C)]
 #[derive(Clone, Copy)]
 pub struct Outcome {
@@ -19,42 +19,33 @@ pub struct Outcome {
     pub count: u32,
 }
 
-fn counted(records: u16) -> Outcome
-    ensures { result ≡ counted records }
+fn outcome_of(answer: Result<u16, Refusal>) -> Outcome
+    ensures { result ≡ outcome_of answer }
 {
-    Outcome {
-        number: 0,
-        place: 0,
-        count: records as u32,
-    }
-}
-
-fn refused(why: Refusal) -> Outcome
-    ensures { result ≡ refused why }
-{
-    Outcome {
-        number: fault_number(why.fault) as u32,
-        place: why.place as u32,
-        count: 0,
+    match answer {
+        Ok(records) => Outcome {
+            number: 0,
+            place: 0,
+            count: records as u32,
+        },
+        Err(why) => Outcome {
+            number: fault_number(why.fault) as u32,
+            place: why.place as u32,
+            count: 0,
+        },
     }
 }
 
 #[unsafe(no_mangle)]
 pub extern "C" fn simplicityhl_read(book: &[u8]) -> Outcome
-    ensures { result ≡ read_outcome (read_of book.now) }
+    ensures { result ≡ outcome_of (read_of book.now) }
 {
-    match read(book) {
-        Ok(n) => counted(n),
-        Err(why) => refused(why),
-    }
+    outcome_of(read(book))
 }
 
 #[unsafe(no_mangle)]
 pub extern "C" fn simplicityhl_check(book: &[u8]) -> Outcome
-    ensures { result ≡ check_outcome (check_of book.now) }
+    ensures { result ≡ outcome_of (check_of book.now) }
 {
-    match check(book) {
-        Ok(n) => counted(n),
-        Err(why) => refused(why),
-    }
+    outcome_of(check(book))
 }

@@ -11,7 +11,7 @@ use book::fault::Refusal;
 use named::build::{bit, select};
 use named::node::{CASE, COMP, DROP, INJL, Nodes, PAIR, TAKE};
 
-// What is next done to the loop's body.
+// What is next done to the loop's body: the original's tasks, by their names.
 #[derive(Clone, Copy)]
 pub enum Task {
     ForWhile0,
@@ -86,7 +86,8 @@ fn twice(row: &mut [Task], count: usize)
 }
 
 // The tasks of a loop over a counter of width 2 to the power, which stand first in the row: from one bit on, those of a width are made
-// of those of half of it.
+// of those of half of it. Document 01 has a row of 31 in place of the original's stack.
+#[tactic(auto, using(crate::proofs::Loops::few_tasks, crate::proofs::Loops::tasks_again), unfolding(crate::specs::ForWhile::tasks))]
 fn filled(power: u32) -> [Task; 31]
     requires { power ≤ 4 }
     ensures { take (2 * 2 ^ power - 1) result ≡ tasks power }
@@ -99,6 +100,7 @@ fn filled(power: u32) -> [Task; 31]
 }
 
 // Loops over a counter of a width that is a power of two up to 16.
+#[tactic(auto, using(crate::proofs::Loops::width_some, crate::proofs::Loops::width_few, crate::proofs::Loops::done_none, crate::proofs::Loops::done_next))]
 pub fn for_while(nodes: &mut Nodes, place: u16, width: u16, f: u16) -> Result<u16, Refusal>
     requires width_is { width ≡ 2 ^ top_of width }
     requires width_in_range { width ≤ 16 }

@@ -58,6 +58,7 @@ fn next_f_fold(nodes: &mut Nodes, place: u16, f: u16, g: u16) -> Result<u16, Ref
 }
 
 // Folds a list of a bound that is a power of two. A list of bound 2 is none, or one element.
+#[tactic(auto, using(named::proofs::Storing::then, named::proofs::Storing::halt, named::proofs::Storing::handed, crate::proofs::Folds::doubling_first, crate::proofs::Folds::doubling_next, crate::proofs::Folds::doubling_last, crate::proofs::Folds::list_whole), unfolding(crate::specs::ListFold::list_fold))]
 pub fn list_fold(nodes: &mut Nodes, place: u16, bound: u16, f: u16) -> Result<u16, Refusal>
     requires { 2 ≤ bound }
     ensures { Done nodes.old (list_fold place bound f) result nodes.new }

@@ -14,7 +14,6 @@ use Rattle.laws.specs.Table.{pick}
 use Rattle.book.specs.Faults.{refusal}
 use Rattle.book.specs.Read.{read_of, index_of}
 use Rattle.book.specs.Valid.{Valid}
-use Rattle.book.specs.declared.fault.Fault.{Fault}
 use Rattle.book.specs.declared.fault.Fault.TheVariants as faults
 use Rattle.book.specs.declared.fault.Refusal.{Refusal}
 use Rattle.book.proofs.Established.{answer_valid}
@@ -22,7 +21,6 @@ use Rattle.named.proofs.Images.{zeros}
 use Rattle.machine.specs.declared.State.{State}
 use Rattle.cells.specs.declared.table.Kept.{Kept}
 use Rattle.run.specs.Whole.{RunAnswer}
-use Rattle.run.specs.declared.Outcome.TheVariants as outcomes
 use Rattle.book.specs.Text.{Text, text}
 use Rattle.nodes.specs.Given.{Given, given}
 use Rattle.nodes.specs.Nodes.{Judged, judge}
@@ -32,7 +30,6 @@ use Rattle.machine.specs.Run.{DEEP, run}
 use Rattle.run.specs.Whole.{seeds, ended, result_of, after_read, resulting, answer_of, cells_of, run_of, table_of}
 use Rattle.machine.specs.declared.Step.TheVariants.{Enter}
 use Rattle.machine.specs.declared.Halt.{Halt}
-use Rattle.machine.specs.declared.Ended.TheVariants.{Failed, Refused}
 use Rattle.machine.specs.declared.Frame.{Frame}
 use Rattle.machine.specs.Machine.{frames, waiting, resume, over_at, going_on, future, Stopped}
 use Rattle.std.specs.Prelude.{Result, Ok, Err}
@@ -45,18 +42,6 @@ unfolding add
 result_add t (got s v w) = refl
 result_add t (halt s fails n) = refl
 result_add t (halt s (refuses f) n) = refl
-
--- WHAT AN END ANSWERS
-module _ (t : List ℕ) {r : Result State Halt} where
-  pub answers_value : {s : State} → r ≡ Ok s → Answered (result_of (over_at t r)) (length t) (Ok (outcomes.Value s.value s.used)) t
-  answers_value e = record { answer = rw e; table = rw e }
-
-  module _ {h : Halt} {t' : List ℕ} (e : r ≡ Err h) (z : t' ≡ zeros (length t)) where
-    pub answers_failed : h.end ≡ Failed → Answered (result_of (over_at t r)) (length t) (Ok outcomes.Failed) t'
-    answers_failed f = record { answer = rw (e, f); table = rw (e, f) z }
-
-    pub answers_refused : {w : Fault} → h.end ≡ Refused w → Answered (result_of (over_at t r)) (length t) (Err (refusal w h.node)) t'
-    answers_refused f = record { answer = rw (e, f); table = rw (e, f) z }
 
 -- THE MACHINE'S START: a node on a cell, no frame
 pub machine_starts : (g : Given) (n u : ℕ) (t : List ℕ) (f : List Frame) {t' : List ℕ} {r : Result State Halt}
@@ -94,19 +79,9 @@ well_counts b ns c e w = go _ (eqb c 0) (ltb 65535 c) refl refl (sym e ∙ w)
     go x false true a d h = absurd (cc)
     go x false false a d h = let z = eqb-false c 0 a in (omega (arith, z), ltb-false 65535 c d)
 
-module _ (g : Given) (c : ℕ) (t : List ℕ) {v : Judged} (e : v ≡ judge g.book g.nodes c) where
-  pub read_well : {a : RunAnswer} {t' : List ℕ} → v ≡ Ok tt → Answered (result_of (ended g c (length t))) (length t) a t' → Answered (after_read g c (length t)) (length t) a t'
-  read_well w h = let q : judge g.book g.nodes c ≡ Ok tt = sym e ∙ w in record { answer = rw q h.answer; table = rw q h.table }
-
-  pub read_bad : {p : ℕ} → v ≡ Err p → t ≡ zeros (length t) → Answered (after_read g c (length t)) (length t) (Err (refusal faults.Nodes p)) t
-  read_bad w z = let q : judge g.book g.nodes c ≡ Err _ = sym e ∙ w in record { answer = rw q; table = rw q z }
-
 -- THE WHOLE CALL
 pub book_valid : {b i : List ℕ} {n : ℕ} → read_of b ≡ Ok n → i ≡ index_of b → Valid b i n
 book_valid {b} {n = n} e q = rw q (answer_valid b n e)
-
-pub cleared : {t : List ℕ} (n : ℕ) → t ≡ zeros n → t ≡ zeros (length t)
-cleared {t} n e = let z : n ≡ length t = sym (ap length e ∙ length-replicate {A = ℕ} n 0) in e ∙ ap zeros z
 
 module _ (b ws ns : List ℕ) (c m : ℕ) {x : Result ℕ Refusal} {t : List ℕ} (p : x ≡ read_of b) where
   pub whole_refused : {w : Refusal} → x ≡ Err w → t ≡ zeros m → (Err w ≡ run_of b ws ns c m) × (t ≡ table_of b ws ns c m)

@@ -144,10 +144,6 @@ module _ {t t' : List ℕ} {p q : Kept} where
   pub seed_kept : {m : ℕ → World → Out} {f : World → Out} → Keeps t p m q t' → m 0 ≡ f → Seeded t p (λ v. f) q t'
   seed_kept k e = record { same = λ hs. k.same 0 hs ∙ ap (λ g. bind (leads 0 t hs p) (λ v. g)) e }
 
-  -- a value's cell is its record's
-  pub one_value : (b : Text) (r : ℕ) → r < b.records → holds b VALUE r ≡ true → Seeded t p (λ v. seed b r) q t' → Seeded t p (seed_one b r) q t'
-  one_value b r h e s = let z : eqb (kind b.bytes b.index r) VALUE ≡ true = sym (holds_inside b VALUE r h) ∙ e in subst (λ (u : Bool). Seeded t p (λ v w. pick u (seed b r w) (got 0 v w)) q t') (sym z) s
-
 -- of another record nothing is stored
 pub one_other : {t : List ℕ} {p : Kept} (b : Text) (r : ℕ) → r < b.records → holds b VALUE r ≡ false → Seeded t p (seed_one b r) p t
 one_other {t} {p} b r h e = let z : eqb (kind b.bytes b.index r) VALUE ≡ false = sym (holds_inside b VALUE r h) ∙ e in record { same = λ hs. subst (λ (u : Bool). leads 0 t hs p ≡ bind (leads 0 t hs p) (λ v w. pick u (seed b r w) (got 0 v w))) (sym z) (bind_same (leads 0 t hs p)) }

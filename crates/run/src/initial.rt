@@ -2,7 +2,7 @@
 ghost use Rattle.std.specs.Prelude.{◌≡◌, ◌<◌, get_or, replicate, true};
 ghost use Rattle.book.specs.Format.{VALUE};
 ghost use Rattle.book.specs.Index.{Lies, field};
-ghost use Rattle.book.specs.Valid.{Valid};
+ghost use Rattle.book.specs.Books.{ValidIn};
 ghost use Rattle.book.specs.Text.{text};
 ghost use Rattle.nodes.specs.Given.{holds};
 ghost use Rattle.run.specs.Whole.{seed, seed_one};
@@ -16,7 +16,7 @@ use nodes::given::{entry, is_of};
 
 // The cell of each value record into a row of zeros: they are numbered from 1.
 pub fn number_values(book: &Book, row: &mut [u16])
-    requires valid { Valid book.now.bytes book.now.index book.now.records }
+    requires valid { ValidIn book.now }
     requires row_is { row.old ≡ replicate 4096 0 }
     ensures { Placed book.now row.new }
 {

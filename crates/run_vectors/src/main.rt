@@ -10,6 +10,7 @@ ghost use Rattle.std.specs.Prelude.{◌+◌, ◌*◌, ◌≤◌, ◌<◌, length
 use book::fault::{Refusal, fault_number};
 use book::word::word;
 use console::read_full;
+use named::entry::ENTRY;
 use run::{Outcome, run};
 use std::io;
 use std::io::Read;
@@ -51,7 +52,7 @@ fn number_at(head: &[u8; 56], k: usize) -> u32
     requires { k < 14 }
 {
     let at = 4 * k;
-    (word(head, at) as u32) + 65536 * (word(head, at + 2) as u32)
+    u32::from_le_bytes([head[at], head[at + 1], head[at + 2], head[at + 3]])
 }
 
 impl From<[u8; 56]> for Head {
@@ -92,12 +93,12 @@ impl Head {
     }
 }
 
-// The number that stands five bytes before, and more.
+// The number that stands an entry before, and more.
 fn put_more(table: &mut [u8], to: usize, more: u8)
     requires to_in_range { 5 ≤ to }
     requires to_fits { to + 1 < length table.old }
 {
-    let n = (word(table, to - 5) as u32) + (more as u32);
+    let n = (word(table, to - ENTRY) as u32) + (more as u32);
     table[to] = (n % 256) as u8;
     table[to + 1] = (n / 256 % 256) as u8;
 }
@@ -109,7 +110,7 @@ fn put_next(table: &mut [u8], at: usize, growth: u32)
 {
     put_more(table, at + 1, (growth % 2) as u8);
     put_more(table, at + 3, (growth / 2 % 2) as u8);
-    table[at] = table[at - 5];
+    table[at] = table[at - ENTRY];
 }
 
 // Each entry from a place on is made of the one before it.
@@ -117,7 +118,7 @@ fn grow(table: &mut [u8], from: usize, growth: u32)
     requires from_in_range { 5 ≤ from }
     requires from_fits { from ≤ length table.old }
 {
-    for at in (from..table.len() - 4).step_by(5) {
+    for at in (from..table.len() + 1 - ENTRY).step_by(ENTRY) {
         put_next(table, at, growth);
     }
 }
@@ -134,7 +135,7 @@ fn read_table(
         return Ok(());
     }
     read_full(input, &mut table[..given])?;
-    if 5 <= given {
+    if ENTRY <= given {
         grow(table, given, growth);
     }
     Ok(())
@@ -144,7 +145,7 @@ fn read_table(
 fn put_bit(table: &mut [u8], place: u8, kind: u8, n: u32)
     requires { kind < 255 }
 {
-    let at = 5 * (place as usize);
+    let at = ENTRY * (place as usize);
     if at < table.len() {
         table[at] = kind + ((n % 2) as u8);
     }
@@ -275,7 +276,7 @@ fn is_next_right(
     due: &mut [u8],
     cells: &mut [u8],
 ) -> io::Result<bool> {
-    let used = 5 * (head.count as usize);
+    let used = ENTRY * (head.count as usize);
     if book.len() < head.book
         || witnesses.len() < head.witnesses
         || nodes.len() < head.table

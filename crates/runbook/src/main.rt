@@ -2,7 +2,7 @@
 // first; the witness list follows it. The book is lowered without symbols.
 #![tactic(auto)]
 
-ghost use Rattle.std.specs.Prelude.{◌≡◌, ◌+◌, ◌≤◌, ◌<◌, length};
+ghost use Rattle.std.specs.Prelude.{◌≡◌, ◌+◌, ◌≤◌, ◌<◌, IfSome};
 
 use book::word::word;
 use cells::table::{LEFT, RIGHT, UNIT, kind_at, left_at, right_at};
@@ -24,17 +24,18 @@ const TABLE: usize = 327675;
 // A value's text is cut after so many characters: a value that shares its parts may be wider than the world.
 const MOST: usize = 65536;
 
+// Has for each open pair its second part, none where that is written and the pair is to be closed. It is one longer than the text: each
+// of its entries has a parenthesis there. A row, since there is no heap; a `Place` counts what of it is in use.
+type Pairs = [Option<u16>; 65537];
+
 // Where the text of a value is: its length, with what did not fit; how many pairs are open; the cell that is next, none where one was
-// just written whole. The row beside it has for each open pair its second part, none where that is written and the pair is to be closed.
+// just written whole. No more pairs are open than there are characters, since each has its parenthesis.
 #[derive(Clone, Copy)]
 struct Place {
     len: usize,
-    open: usize,
+    pairs: usize,
     next: Option<u16>,
-}
-
-fn print(out: &mut impl Write, text: &[u8]) -> io::Result<()> {
-    out.write_all(text)
+    ghost nested: { pairs ≤ len },
 }
 
 // A character at a place, if it fits.
@@ -47,43 +48,36 @@ fn put(text: &mut [u8], at: usize, c: u8) {
 // Two characters, and then the cell, or what follows a whole one.
 fn put_two(text: &mut [u8], s: Place, a: u8, b: u8, next: Option<u16>) -> Place
     requires { s.len ≤ 65536 }
-    ensures len { result.len ≡ s.len + 2 }
-    ensures pairs { result.open ≡ s.open }
+    ensures { result.len ≡ s.len + 2 }
 {
     put(text, s.len, a);
     put(text, s.len + 1, b);
     Place {
         len: s.len + 2,
-        open: s.open,
+        pairs: s.pairs,
         next,
     }
 }
 
 // Opens a pair: its second part is left to write.
-fn open(text: &mut [u8], row: &mut [Option<u16>], s: Place, first: u16, second: u16) -> Place
-    requires open_fits { s.open ≤ s.len }
-    requires len_fits { s.len ≤ 65536 }
-    requires row_fits { 65536 < length row.old }
-    ensures len { result.len ≡ s.len + 1 }
-    ensures pairs { result.open ≡ s.open + 1 }
+fn open(text: &mut [u8], row: &mut Pairs, s: Place, first: u16, second: u16) -> Place
+    requires { s.len ≤ 65536 }
+    ensures { result.len ≡ s.len + 1 }
 {
-    let at = s.open;
+    let at = s.pairs;
     put(text, s.len, b'(');
     row[at] = Some(second);
     Place {
         len: s.len + 1,
-        open: at + 1,
+        pairs: at + 1,
         next: Some(first),
     }
 }
 
-// Begins the next cell. No more pairs are open than there are characters, since each has its parenthesis.
-fn begin(cells: &[u8], cell: u16, text: &mut [u8], row: &mut [Option<u16>], s: Place) -> Place
-    requires open_fits { s.open ≤ s.len }
-    requires len_fits { s.len ≤ 65536 }
-    requires row_fits { 65536 < length row.old }
-    ensures grows { s.len < result.len }
-    ensures open_fits { result.open ≤ result.len }
+// Begins the next cell.
+fn begin(cells: &[u8], cell: u16, text: &mut [u8], row: &mut Pairs, s: Place) -> Place
+    requires { s.len ≤ 65536 }
+    ensures { s.len < result.len }
 {
     let part = left_at(cells, cell);
     match kind_at(cells, cell) {
@@ -95,76 +89,59 @@ fn begin(cells: &[u8], cell: u16, text: &mut [u8], row: &mut [Option<u16>], s: P
 }
 
 // Goes on in the pair that was opened last: to its second part, or to its end.
-fn go_on(text: &mut [u8], row: &mut [Option<u16>], s: Place) -> Place
-    requires open_fits { s.open ≤ s.len }
-    requires len_fits { s.len ≤ 65536 }
-    requires row_fits { 65536 < length row.old }
-    requires is_open { 0 < s.open }
-    ensures grows { s.len < result.len }
-    ensures open_fits { result.open ≤ result.len }
+fn go_on(text: &mut [u8], row: &mut Pairs, s: Place) -> Place
+    requires fits { s.len ≤ 65536 }
+    requires is_open { 0 < s.pairs }
+    ensures { s.len < result.len }
 {
-    let at = s.open - 1;
-    let second = row[at];
-    if second.is_none() {
-        put(text, s.len, b')');
-        return Place {
-            len: s.len + 1,
-            open: at,
-            next: None,
-        };
+    let at = s.pairs - 1;
+    if let Some(second) = row[at].take() {
+        return put_two(text, s, b',', b' ', Some(second));
     }
-    row[at] = None;
-    put_two(text, s, b',', b' ', second)
+    put(text, s.len, b')');
+    Place {
+        len: s.len + 1,
+        pairs: at,
+        next: None,
+    }
 }
 
-// Writes the text of a cell into room for MOST characters, and answers its length, or more than MOST where it is cut.
-fn spell(cells: &[u8], cell: u16, text: &mut [u8], row: &mut [Option<u16>]) -> usize
-    requires { 65536 < length row.old }
+// Writes the text of a cell into room for MOST characters, and answers its length, none where it is cut.
+fn spell(cells: &[u8], cell: u16, text: &mut [u8; MOST], row: &mut Pairs) -> Option<usize>
+    ensures { IfSome result (λ n. n ≤ 65536) }
 {
     let mut s = Place {
         len: 0,
-        open: 0,
+        pairs: 0,
         next: Some(cell),
     };
     // Not a `for`: a step writes one character or two.
     while s.len <= MOST {
         if let Some(next) = s.next {
             s = begin(cells, next, text, row, s);
-        } else if 0 < s.open {
+        } else if 0 < s.pairs {
             s = go_on(text, row, s);
         } else {
-            break;
+            return Some(s.len);
         }
     }
-    s.len
+    None
 }
 
-// Prints what is spelled of a cell.
-fn print_spelled(
-    out: &mut impl Write,
-    cells: &[u8],
-    cell: u16,
-    text: &mut [u8],
-    row: &mut [Option<u16>],
-) -> io::Result<()>
-    requires { 65536 < length row.old }
-{
-    let n = spell(cells, cell, text, row);
-    print(out, b"value\n")?;
-    if text.len() < n {
-        print(out, text)?;
-        print(out, b" ...\n")
-    } else {
-        print(out, &text[..n])?;
-        print(out, b"\n")
-    }
-}
-
-// The row is one longer than the text: each of its entries has a parenthesis there.
 fn print_value(out: &mut impl Write, cells: &[u8], cell: u16) -> io::Result<()> {
     let mut text = [0u8; MOST];
     let mut row = [None; 65537];
-    print_spelled(out, cells, cell, &mut text, &mut row)
+    out.write_all(b"value\n")?;
+    match spell(cells, cell, &mut text, &mut row) {
+        Some(n) => {
+            out.write_all(&text[..n])?;
+            out.write_all(b"\n")
+        }
+        None => {
+            out.write_all(&text)?;
+            out.write_all(b" ...\n")
+        }
+    }
 }
 
 fn run_nodes(
@@ -177,7 +154,7 @@ fn run_nodes(
     let mut cells = [0u8; TABLE];
     match run(book, witnesses, nodes, count as u32, &mut cells) {
         Ok(Outcome::Value { cell, .. }) => print_value(out, &cells, cell),
-        Ok(Outcome::Failed) => print(out, b"failed\n"),
+        Ok(Outcome::Failed) => out.write_all(b"failed\n"),
         Err(why) => print_refusal(out, why),
     }
 }

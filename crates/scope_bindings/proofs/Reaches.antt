@@ -1,12 +1,8 @@
 -- Laws of a search from the newest binding on, and of the steps to what it finds.
 -- Assumes nothing.
-use Prim.Native.Nat.{ℕ, zero, suc, ◌+◌, ◌-◌, ◌<◌, ◌≤◌}
-use mathlib.Core.List.{List, [], ◌∷◌, map-append}
+use Rattle.std.proofs.Common.{ℕ, zero, suc, ◌+◌, ◌-◌, ◌<◌, ◌≤◌, List, [], ◌∷◌, ◌≡◌, refl, ap, ◌∙◌, arith, get_or, replicate, Some, None, Result, Ok, Err}
+use mathlib.Core.List.{map-append}
 use mathlib.Core.Option.{Option}
-use mathlib.Core.Path.{◌≡◌, refl, ap, ◌∙◌}
-use native.Mathlib.Omega.{arith}
-use lib.ListN.{get_or, replicate}
-use Rattle.std.specs.Prelude.{Some, None, Result, Ok, Err}
 use Rattle.std.specs.Prelude as std
 use Rattle.std.specs.Option.{ok_or}
 use Rattle.array.specs.Path.{Side, on_left, on_right}
@@ -18,10 +14,10 @@ use Rattle.named.specs.Combinators.{TAKE, DROP, kinds, wraps}
 use Rattle.named.specs.Stores.{Done}
 use Rattle.named.specs.Table.{Table}
 use Rattle.named.proofs.Runs.{bind_pure}
-use Rattle.named.proofs.Storing.{then, halt, done_pure, done_stop}
+use Rattle.named.proofs.Storing.{then, halt, handed, done_pure, done_stop}
 use Rattle.pattern.specs.Find.{find}
 use Rattle.pattern.specs.Seeks.{Absent, Found, Sought, Fate, Seeks}
-use Rattle.pattern.proofs.Selectors.{wraps_more, found_on, found_halt}
+use Rattle.pattern.proofs.Selectors.{wraps_more, found_on, found_halt, seeks_found, seeks_full, sought_found, sought_full}
 use Rattle.scope_bindings.specs.Scope.{reach, through, lookup_from, lookup, lookup_below, fetch, bound, newest}
 use Rattle.scope_bindings.proofs.Scopes.{newest_length}
 
@@ -86,8 +82,7 @@ module _ (r a : ℕ) {d : Table} where
   pub drops_all : {d₁ : Table} {c : ℕ} (k n : ℕ) → k ≤ n → n ≤ k → Done d (wraps r (replicate k DROP) a) (Ok c) d₁ → Done d (wraps r (replicate n DROP) a) (Ok c) d₁
   drops_all k n l o p = let z : n ≡ k = omega arith in rw z p
 
-  -- where one is refused, so are all
-  pub drops_stop : {d₁ : Table} {w : Refusal} (k n : ℕ) → k ≤ n → Done d (wraps r (replicate k DROP) a) (Err w) d₁ → Done d (wraps r (replicate n DROP) a) (Err w) d₁
+  drops_stop : {d₁ : Table} {w : Refusal} (k n : ℕ) → k ≤ n → Done d (wraps r (replicate k DROP) a) (Err w) d₁ → Done d (wraps r (replicate n DROP) a) (Err w) d₁
   unfolding wraps
   drops_stop {d₁} {w} k n o p = go (n - k) n (omega arith)
     where
@@ -95,6 +90,10 @@ module _ (r a : ℕ) {d : Table} where
       go zero u z = let y : u ≡ k = omega arith in rw y p
       go (suc m) zero z = absurd (omega arith)
       go (suc m) (suc u) z = halt (λ b. emit r DROP b 0) (go m u (omega arith))
+
+  -- where one is refused, so are all
+  pub drops_halt : {d₁ d₂ : Table} {c : ℕ} {w : Refusal} (k n : ℕ) → k < n → Done d (wraps r (replicate k DROP) a) (Ok c) d₁ → Done d₁ (emit r DROP c 0) (Err w) d₂ → Done d (wraps r (replicate n DROP) a) (Err w) d₂
+  drops_halt k n o p q = drops_stop (k + 1) n (omega arith) (drops_next k (k + 1) refl p q)
 
 kinds_drops : (n : ℕ) → kinds TAKE DROP (replicate n on_right) ≡ replicate n DROP
 kinds_drops zero = refl
@@ -125,3 +124,8 @@ module _ {r : ℕ} {d d' : Table} {w : Option (List Side)} where
       go : (o : std.Option ℕ) → Seeks r d w (Ok o) d' → Done d (fetch r w) (ok_or o (refusal Undefined r)) d'
       go None h = rw (h.fate.is, h.fate.table) (done_stop d r _)
       go (Some a) h = rw h.fate.is h.fate.stored
+
+-- what the check is given to prove the steps, and to prove what a search finds in a binding
+pub ruleset reaches = (then, halt, handed, drops_none, drops_next, drops_all, drops_halt, reach_root, reach_other)
+
+pub ruleset passes = (handed, seeks_found, seeks_full, sought_found, sought_full, misses_found, misses_full)

@@ -1,22 +1,18 @@
 -- Laws of scopes: what an entry stands for, and how a scope grows.
 -- Assumes nothing.
-use Prim.Native.Nat.{ℕ, zero, suc, ◌+◌, ◌<◌, ◌≤◌}
-use mathlib.Core.Bool.{Bool, true, false}
-use mathlib.Core.List.{List, [], ◌∷◌}
+use Rattle.std.proofs.Common.{ℕ, zero, suc, ◌+◌, ◌<◌, ◌≤◌, Bool, true, false, List, [], ◌∷◌, ◌≡◌, refl, sym, ap, ◌∙◌, arith, ne_eqb, eqb-true, eqb, length, get_or, set, replicate, length-set, get_or-set_same, get_or-set_other}
 use mathlib.Core.Option.{none}
-use mathlib.Core.Path.{◌≡◌, refl, sym, ap, ◌∙◌}
-use native.Mathlib.Omega.{arith}
-use borrow.Author.Tests.{ne_eqb, eqb-true, eqb-false}
-use lib.Dec.{eqb}
-use lib.ListN.{length, get_or, set, replicate, length-set, length-replicate}
-use lib.Seq.{get_or-set_same, get_or-set_other}
+use borrow.Author.Tests.{eqb-false}
+use lib.ListN.{length-replicate}
 use Rattle.book.specs.Format.{PATTERN, FUNCTION, FN, kind_of}
 use Rattle.book.specs.Read.{kind_at}
 use Rattle.book.specs.Index.{mark, Begins}
 use Rattle.book.specs.Stands.{Stands}
 use Rattle.book.specs.Tree.{pattern_of, fun_of, ignore}
 use Rattle.book.proofs.Standing.{stands_begins, stands_few, function_mark}
+use Rattle.named.proofs.Storing.{handed}
 use Rattle.pattern.specs.Find.{find, params_pattern, params_of}
+use Rattle.pattern.proofs.Selectors.{absent, seeks_absent, nears_absent, nears_found, nears_full, sought_missing, sought_found, sought_full}
 use Rattle.scope_bindings.specs.Scope.{IGNORED, bound, newest, scope_of, Binds, ignored, of_pattern, of_function, ScopeStands, Roots, Inserts}
 use Rattle.scope_bindings.specs.declared.ScopeBindings.{ScopeBindings}
 
@@ -120,3 +116,6 @@ module _ {b i : List ℕ} {s : ScopeBindings} {x : ℕ} where
         at j o false q =
             let n : j ≡ s.count → ⊥ = eqb-false j s.count q in
             rw (get_or-set_other s.bindings s.count j x 0 n) (v.each j (omega (arith, n)))
+
+-- what the check is given to prove the search of one entry
+pub ruleset entries = (handed, absent, nears_absent, nears_found, nears_full, sought_missing, sought_found, sought_full, seeks_absent, find_ignored, binds_function, binds_pattern, marked_function, marked_pattern)

@@ -19,7 +19,8 @@ use pattern::{Near, get_from, get_param, get_shallow};
 pub const IGNORED: u16 = 65535;
 
 // The bindings in the order in which they were made: the first is the root, the input itself. A binding is a pattern's record, or a
-// function's for its parameter tuple, or IGNORED. A scope is lent by reference; who binds copies it.
+// function's for its parameter tuple, or IGNORED. A scope is lent by reference; who binds copies it. That a scope stands in a book is no
+// invariant of the type: it holds no book, which each copy would have to carry.
 #[derive(Clone, Copy)]
 pub struct ScopeBindings {
     pub bindings: [u16; 256],
@@ -104,6 +105,7 @@ impl ScopeBindings {
     }
 
     // The same, the newest of them first. One row of what was sought in vain serves them all, since they may share their parts.
+    #[tactic(auto, using(crate::proofs::Reaches::passes))]
     fn get_newest(
         &self,
         book: &Book,
@@ -130,6 +132,9 @@ impl ScopeBindings {
 }
 
 // Searches one binding, if its pattern is flat.
+// `get_bound` is its like. They are two: this one has no row of names sought in vain to ask, which saves nearly half of lowering a block of
+// 200 bindings (docs/DECISIONS.md, 20), and its answer is another type, `Near`, which can say that the pattern is nested.
+#[tactic(auto, using(crate::proofs::Scopes::entries))]
 fn get_flat(
     book: &Book,
     pattern: u16,
@@ -153,6 +158,7 @@ fn get_flat(
 }
 
 // Searches one binding, with a row of what was sought in vain.
+#[tactic(auto, using(crate::proofs::Scopes::entries))]
 fn get_bound(
     book: &Book,
     pattern: u16,
@@ -175,6 +181,7 @@ fn get_bound(
 }
 
 // The steps to a binding around the node that was found in it, where so many bindings are newer and so many older.
+#[tactic(auto, using(crate::proofs::Reaches::reaches))]
 fn reach(
     nodes: &mut Nodes,
     place: u16,
@@ -193,6 +200,7 @@ fn reach(
 }
 
 // A node wrapped by n drops.
+#[tactic(auto, using(crate::proofs::Reaches::reaches))]
 fn drops(nodes: &mut Nodes, place: u16, node: u16, n: usize) -> Result<u16, Refusal>
     ensures { Done nodes.old (wraps place (replicate n DROP) node) result nodes.new }
 {

@@ -6,7 +6,6 @@ use mathlib.Core.List.{List, [], ◌∷◌}
 use mathlib.Core.Option.{Option, some, none}
 use mathlib.Core.Path.{◌≡◌, refl, sym, ap, ◌∙◌}
 use native.Mathlib.Omega.{arith}
-use borrow.Author.Tests.{eq-eqb, ne_eqb}
 use lib.Dec.{T, eqb, ltb, leb, ltb→lt, leb→le}
 use lib.ListN.{get_or}
 use Rattle.laws.specs.Table.{both, among, both_left, both_right, ◌also◌, every}
@@ -17,13 +16,14 @@ use Rattle.book.specs.Index.{mark, field, Lies}
 use Rattle.book.specs.Stands.{Stands}
 use Rattle.book.specs.Tree.{Stmts, as_expr, as_stmt, maker, tree, type_of, expr_of, declared_of, stmt_of, last_at, group}
 use Rattle.book.proofs.Roles.{layout, is_kind, field_before}
-use Rattle.book.proofs.Standing.{stands_mark, stands_tree, head_lies, head_stands, head_ranged, each_stands, last_lies, tail_stands}
-use Rattle.parts.specs.Parts.{Spanned, span_at}
+use Rattle.book.proofs.Standing.{stands_mark, stands_tree, head_lies, head_stands, head_ranged, each_stands}
+use Rattle.parts.specs.Parts.{Spanned, span_at, block_end}
 use Rattle.parts.specs.declared.view.Span.{Span}
+use Rattle.parts.proofs.Blocks.{unended_last, ended_last}
 use Rattle.shapes.specs.Shapes.{type_is, end_type, row_type, list_type, sums, is_there, is_at, place_of, element_of, has_places, all_are, is_list_of, whole}
 use Rattle.shapes.specs.Views.{ListBound, Gives, side_is}
 use Rattle.shapes.specs.Wholes.{Elements, Declares, types_at}
-use Rattle.std.specs.Prelude.{Option as Answer, Some}
+use Rattle.std.specs.Prelude.{Option as Answer, Some, None}
 use Rattle.std.specs.Option.{option_eq}
 use Rattle.shapes.proofs.Same.{same_turned, types_same, gives_at}
 use Rattle.shapes.proofs.Declared.{expr_declares}
@@ -209,28 +209,17 @@ module _ {b i : List ℕ} {r t : ℕ} (g : Declares b i r EB t) where
       let z : k + 0 ≡ k = omega arith in
       stmt_end (rw z at (h 0 (omega arith))) _ ∙ stmts_end n (k + 1) rest (λ j o. let q : k + suc j ≡ k + 1 + j = omega arith in rw q at (h (suc j) (omega arith)))
 
-  block_end : whole (expr_of b i r) ≡ same (end_type (last_at (field b i r) (λ k. tree b i (field b i r k)) (2 + field b i r 1))) (type_of b i t)
+  block_whole : whole (expr_of b i r) ≡ same (end_type (last_at (field b i r) (λ k. tree b i (field b i r k)) (2 + field b i r 1))) (type_of b i t)
   unfolding whole as_expr
-  block_end =
+  block_whole =
       ap whole (made g)
       ∙ rw (g.is, stmts_end (field b i r 1) 2 _ (λ j h. each_stands g.marked.stands EB g.marked.is (2 + j) j 0 (omega arith) h tt tt))
 
-  pub block_lies : {n : ℕ} → n ≡ field b i r 1 → Lies b i r (2 + n)
-  block_lies e = rw e (last_lies g.marked.stands EB g.marked.is (2 + field b i r 1) (omega arith) tt)
+  -- there is no end; e is its end, whose type is record p
+  pub block_none : None ≡ block_end (field b i r) → Tests (whole (expr_of b i r)) (same (type_of b i t) one ∷ [])
+  unfolding end_type
+  block_none o = record { is = block_whole ∙ rw (unended_last g.marked o) (same_turned one (type_of b i t)) }
 
-  -- e is its end
-  module _ {n e : ℕ} (z : n ≡ field b i r 1) (o : e ≡ field b i r (2 + n)) where
-    is_end : e ≡ field b i r (2 + field b i r 1)
-    is_end = o ∙ rw z
-
-    -- there is none; there is one, of type p
-    pub block_none : e ≡ 65535 → Tests (whole (expr_of b i r)) (same (type_of b i t) one ∷ [])
-    unfolding end_type
-    block_none q = record { is = block_end ∙ rw (eq-eqb _ 65535 (sym is_end ∙ q)) (same_turned one (type_of b i t)) }
-
-    pub end_is : (e ≡ 65535 → ⊥) → Stands b i e EXPRESSION
-    end_is q = rw is_end (tail_stands g.marked.stands EB g.marked.is (2 + field b i r 1) (omega arith) tt refl (λ w. q (is_end ∙ w)))
-
-    pub block_is : {p : ℕ} → (e ≡ 65535 → ⊥) → Is b i p (type_is (expr_of b i e)) → Tests (whole (expr_of b i r)) (same (type_of b i p) (type_of b i t) ∷ [])
-    unfolding end_type
-    block_is q w = record { is = block_end ∙ rw (ne_eqb _ 65535 (λ v. q (is_end ∙ v)), ← is_end, w.1) }
+  pub block_is : {e p : ℕ} → Some e ≡ block_end (field b i r) → Is b i p (type_is (expr_of b i e)) → Tests (whole (expr_of b i r)) (same (type_of b i p) (type_of b i t) ∷ [])
+  unfolding end_type
+  block_is o w = record { is = block_whole ∙ rw (ended_last g.marked o, w.1) }

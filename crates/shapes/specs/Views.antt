@@ -6,8 +6,10 @@ use Rattle.laws.specs.Table.{pick, among}
 use Rattle.array.specs.Path.{on_left, on_right}
 use Rattle.simplicity.specs.Types.{Ty, one, sum, power, same}
 use Rattle.book.specs.Format.{TYPE, TS, TP, power_in}
+use Rattle.book.specs.Books.{StandsIn}
 use Rattle.book.specs.Stands.{Stands}
-use Rattle.book.specs.Tree.{type_of}
+use Rattle.book.specs.Text.{Text}
+use Rattle.book.specs.Tree.{Expr, type_of, expr_of}
 use Rattle.shapes.specs.Shapes.{Sort, sums, products, side_of, onward}
 
 -- the code's answer says what o says: there is no type, or it is that of record t
@@ -43,3 +45,20 @@ halved_of (suc k) t = onward (same_half (side_of products on_left t) (side_of pr
 -- a list's block: unit, or 2 ^ k of a type
 abbrev pub block_type : Ty → ℕ → Ty
 block_type a k = sum one (power a k)
+
+-- a book as contracts see it
+module _ (x : Text) where
+  -- the expression of record e; the type of record t
+  abbrev pub expr_at : ℕ → Expr
+  expr_at e = expr_of x.bytes x.index e
+
+  abbrev pub type_at : ℕ → Ty
+  type_at t = type_of x.bytes x.index t
+
+  -- record t is a type, which is u
+  abbrev pub TypeIs : ℕ → Ty → Type 0
+  TypeIs t u = StandsIn x t TYPE × (type_at t ≡ u)
+
+  -- the code's answer a says what o says
+  abbrev pub GivesIn : Option Ty → Answer ℕ → Type 0
+  GivesIn o a = Gives x.bytes x.index o a

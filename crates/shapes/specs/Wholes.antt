@@ -7,9 +7,13 @@ use Rattle.simplicity.specs.Types.{Ty, one, product, two, same}
 use Rattle.book.specs.Format.{TYPE, EXPRESSION, FUNCTION, VU, VL, VR, VP}
 use Rattle.book.specs.Index.{mark, field, Lies}
 use Rattle.book.specs.Stands.{Stands}
+use Rattle.book.specs.Text.{Text}
+use Rattle.book.specs.Books.{field_in}
 use Rattle.book.specs.Tree.{group, type_of, expr_of, declared_of}
-use Rattle.parts.specs.Parts.{Marked}
+use Rattle.parts.specs.Parts.{Marked, span}
+use Rattle.parts.specs.declared.view.Span.{Span}
 use Rattle.shapes.specs.Shapes.{type_is, sums, side_of, is_at, word_type}
+use Rattle.shapes.specs.Views.{expr_at}
 
 module _ (b i : List ℕ) (r : ℕ) where
   -- document 01, CHECK and the meanings: whether a value's declared type is the one that its parts' declared types give
@@ -61,3 +65,31 @@ unfoldable pub accumulates : List ℕ → List ℕ → ℕ → ℕ → ℕ → B
 accumulates b i r f t =
     let acc = type_of b i (field b i f 5) in
     both (same (type_is (expr_of b i (field b i r 4))) acc) (both (same (type_of b i t) acc) (same (type_of b i (field b i f 0)) acc))
+
+-- a record r of a book as contracts see it
+module _ (x : Text) (r : ℕ) where
+  -- it is an expression of mark m whose declared type is record t
+  abbrev pub DeclaresIn : ℕ → ℕ → Type 0
+  DeclaresIn m t = Declares x.bytes x.index r m t
+
+  -- the declared type of the expression that field k names; of such a value
+  abbrev pub part_at : ℕ → Ty
+  part_at k = type_is (expr_at x (field_in x r k))
+
+  abbrev pub value_part : ℕ → Ty
+  value_part k = declared_of x.bytes x.index (field_in x r k)
+
+  -- a row of elements: they are expressions; their declared types
+  abbrev pub ElementsIn : Span → Type 0
+  ElementsIn s = Elements x.bytes x.index r s.stride s.from s.count
+
+  abbrev pub element_types : Span → List Ty
+  element_types s = types_at x.bytes x.index r s.stride s.from s.count
+
+  -- the declared type of element k
+  abbrev pub element_type : Span → ℕ → Ty
+  element_type s k = part_at (s.from + s.stride * k)
+
+-- where the n arguments of a call stand
+abbrev pub arguments : ℕ → Span
+arguments n = span 3 1 n

@@ -1,13 +1,12 @@
 // Types taken apart: READ refuses alike types, so two types are the same exactly if their records are.
-ghost use Rattle.std.specs.Prelude.{◌≡◌, true, T, ◌+◌, ◌<◌, ◌≤◌};
+ghost use Rattle.std.specs.Prelude.{◌≡◌, T, ◌<◌, ◌≤◌};
 ghost use Rattle.array.specs.Split.{top_of};
 ghost use Rattle.simplicity.specs.Types.{one, two, same};
 ghost use Rattle.book.specs.Format.{TYPE, EXPRESSION, powers};
-ghost use Rattle.book.specs.Stands.{Stands};
-ghost use Rattle.book.specs.Tree.{type_of, expr_of};
 ghost use Rattle.laws.specs.Table.{among};
 ghost use Rattle.shapes.specs.Shapes.{type_is, place_of, array_type, list_type, word_type, element_of, has_places};
-ghost use Rattle.shapes.specs.Views.{Gives, sort_of, is_sort, side_is, ListBound, block_type, halved_of};
+ghost use Rattle.book.specs.Books.{StandsIn};
+ghost use Rattle.shapes.specs.Views.{TypeIs, GivesIn, expr_at, type_at, sort_of, is_sort, side_is, ListBound, block_type, halved_of};
 
 use array::split;
 use book::format::{TP, TS, TU};
@@ -15,18 +14,19 @@ use book::record::Book;
 
 // The declared type of an expression.
 pub fn type_of(book: &Book, e: u16) -> u16
-    requires { Stands book.now.bytes book.now.index e EXPRESSION }
-    ensures { (Stands book.now.bytes book.now.index result TYPE) × (type_of book.now.bytes book.now.index result ≡ type_is (expr_of book.now.bytes book.now.index e)) }
+    requires { StandsIn book.now e EXPRESSION }
+    ensures { TypeIs book.now result (type_is (expr_at book.now e)) }
 {
     book.field_at(e, 0)
 }
 
 // A side of a sum (m is its mark) or of a product: its left for 0, its right for 1.
+#[tactic(auto, using(book::proofs::Standing::stands_begins, crate::proofs::Sides::side_nowhere, crate::proofs::Sides::side_lies, crate::proofs::Sides::side_gives))]
 pub fn side(book: &Book, m: u8, t: u16, k: usize) -> Option<u16>
-    requires stands { Stands book.now.bytes book.now.index t TYPE }
+    requires stands { StandsIn book.now t TYPE }
     requires sort { T (is_sort m) }
     requires k_in_range { k < 2 }
-    ensures { Gives book.now.bytes book.now.index (side_is m k (type_of book.now.bytes book.now.index t)) result }
+    ensures { GivesIn book.now (side_is m k (type_at book.now t)) result }
 {
     if book.mark_at(t) != m {
         return None;
@@ -36,11 +36,11 @@ pub fn side(book: &Book, m: u8, t: u16, k: usize) -> Option<u16>
 
 // Place k of n in a balanced tree of sums or of products.
 pub fn place(book: &Book, m: u8, t: u16, n: u32, k: u32) -> Option<u16>
-    requires stands { Stands book.now.bytes book.now.index t TYPE }
+    requires stands { StandsIn book.now t TYPE }
     requires sort { T (is_sort m) }
     requires k_in_range { k < n }
     requires n_in_range { n ≤ 256 }
-    ensures { Gives book.now.bytes book.now.index (place_of (sort_of m) n k (type_of book.now.bytes book.now.index t)) result }
+    ensures { GivesIn book.now (place_of (sort_of m) n k (type_at book.now t)) result }
 {
     let mut at = t;
     let mut count = n;
@@ -62,16 +62,16 @@ pub fn place(book: &Book, m: u8, t: u16, n: u32, k: u32) -> Option<u16>
 
 // Whether a type is unit.
 pub fn is_unit(book: &Book, t: u16) -> bool
-    requires { Stands book.now.bytes book.now.index t TYPE }
-    ensures { result ≡ same (type_of book.now.bytes book.now.index t) one }
+    requires { StandsIn book.now t TYPE }
+    ensures { result ≡ same (type_at book.now t) one }
 {
     book.mark_at(t) == TU
 }
 
 // Whether a type is a bit.
 pub fn is_bit(book: &Book, t: u16) -> bool
-    requires { Stands book.now.bytes book.now.index t TYPE }
-    ensures { result ≡ same (type_of book.now.bytes book.now.index t) two }
+    requires { StandsIn book.now t TYPE }
+    ensures { result ≡ same (type_at book.now t) two }
 {
     if book.mark_at(t) != TS {
         return false;
@@ -81,9 +81,9 @@ pub fn is_bit(book: &Book, t: u16) -> bool
 
 // What a type is n of, in balanced pairs: n is a power of two, so both halves of each pair are one type.
 pub fn halved(book: &Book, t: u16, n: u32) -> Option<u16>
-    requires stands { Stands book.now.bytes book.now.index t TYPE }
+    requires stands { StandsIn book.now t TYPE }
     requires among { T (among powers n) }
-    ensures { Gives book.now.bytes book.now.index (halved_of (top_of n) (type_of book.now.bytes book.now.index t)) result }
+    ensures { GivesIn book.now (halved_of (top_of n) (type_at book.now t)) result }
 {
     let mut at = t;
     let mut count = n;
@@ -101,9 +101,9 @@ pub fn halved(book: &Book, t: u16, n: u32) -> Option<u16>
 
 // Whether a type is a word of so many bits, a power of two.
 pub fn is_word(book: &Book, t: u16, bits: u32) -> bool
-    requires stands { Stands book.now.bytes book.now.index t TYPE }
+    requires stands { StandsIn book.now t TYPE }
     requires among { T (among powers bits) }
-    ensures { result ≡ same (type_of book.now.bytes book.now.index t) (word_type bits) }
+    ensures { result ≡ same (type_at book.now t) (word_type bits) }
 {
     match halved(book, t, bits) {
         Some(bit) => is_bit(book, bit),
@@ -113,21 +113,21 @@ pub fn is_word(book: &Book, t: u16, bits: u32) -> bool
 
 // Whether a type is n of a type, in a row.
 pub fn is_array(book: &Book, t: u16, n: u32, element: u16) -> bool
-    requires stands { Stands book.now.bytes book.now.index t TYPE }
-    requires stands_element { Stands book.now.bytes book.now.index element TYPE }
+    requires stands { StandsIn book.now t TYPE }
+    requires stands_element { StandsIn book.now element TYPE }
     requires n_in_range { 1 ≤ n }
     requires n_in_range_too { n ≤ 256 }
-    ensures { result ≡ same (type_of book.now.bytes book.now.index t) (array_type (type_of book.now.bytes book.now.index element) n) }
+    ensures { result ≡ same (type_at book.now t) (array_type (type_at book.now element) n) }
 {
     (0..n).all(|k| place(book, TP, t, n, k) == Some(element))
 }
 
 // Whether a type is a list's block: unit, or n of a type, a power of two.
 pub fn is_block(book: &Book, t: u16, n: u32, element: u16) -> bool
-    requires stands { Stands book.now.bytes book.now.index t TYPE }
-    requires stands_element { Stands book.now.bytes book.now.index element TYPE }
+    requires stands { StandsIn book.now t TYPE }
+    requires stands_element { StandsIn book.now element TYPE }
     requires among { T (among powers n) }
-    ensures { result ≡ same (type_of book.now.bytes book.now.index t) (block_type (type_of book.now.bytes book.now.index element) (top_of n)) }
+    ensures { result ≡ same (type_at book.now t) (block_type (type_at book.now element) (top_of n)) }
 {
     if book.mark_at(t) != TS {
         return false;
@@ -137,10 +137,10 @@ pub fn is_block(book: &Book, t: u16, n: u32, element: u16) -> bool
 
 // Whether a type is the lists of a bound, of a type.
 pub fn is_list(book: &Book, t: u16, bound: u32, element: u16) -> bool
-    requires stands { Stands book.now.bytes book.now.index t TYPE }
-    requires stands_element { Stands book.now.bytes book.now.index element TYPE }
+    requires stands { StandsIn book.now t TYPE }
+    requires stands_element { StandsIn book.now element TYPE }
     requires list_bound { ListBound bound }
-    ensures { result ≡ same (type_of book.now.bytes book.now.index t) (list_type (type_of book.now.bytes book.now.index element) bound) }
+    ensures { result ≡ same (type_at book.now t) (list_type (type_at book.now element) bound) }
 {
     let mut at = t;
     let mut half = bound / 2;
@@ -160,9 +160,9 @@ pub fn is_list(book: &Book, t: u16, bound: u32, element: u16) -> bool
 
 // What a type is the lists of a bound of, if it is that at all: its last block has one element.
 pub fn element_of(book: &Book, t: u16, bound: u32) -> Option<u16>
-    requires stands { Stands book.now.bytes book.now.index t TYPE }
+    requires stands { StandsIn book.now t TYPE }
     requires list_bound { ListBound bound }
-    ensures { Gives book.now.bytes book.now.index (element_of (top_of bound) (type_of book.now.bytes book.now.index t)) result }
+    ensures { GivesIn book.now (element_of (top_of bound) (type_at book.now t)) result }
 {
     let mut at = t;
     let mut half = bound / 2;
@@ -176,9 +176,9 @@ pub fn element_of(book: &Book, t: u16, bound: u32) -> Option<u16>
 
 // Whether a type has a place for each of n variants.
 pub fn has_places(book: &Book, t: u16, n: u32) -> bool
-    requires stands { Stands book.now.bytes book.now.index t TYPE }
+    requires stands { StandsIn book.now t TYPE }
     requires n_in_range { n ≤ 256 }
-    ensures { result ≡ has_places n (type_of book.now.bytes book.now.index t) }
+    ensures { result ≡ has_places n (type_at book.now t) }
 {
     (0..n).all(|k| place(book, TS, t, n, k).is_some())
 }

@@ -3,12 +3,11 @@ ghost use Rattle.std.specs.Prelude.{◌≡◌, [], ◌∷◌, ◌+◌, ◌*◌, 
 ghost use Rattle.laws.specs.Table.{among};
 ghost use Rattle.simplicity.specs.Types.{product, two, same};
 ghost use Rattle.book.specs.Format.{TYPE, VALUE, EXPRESSION, FUNCTION, VP, EC, ET, EL, E0, EN, EB, EM, EH, CJ, CL, CD, CA, CN, CK, CF, CQ, CY, CW, CH, powers};
-ghost use Rattle.book.specs.Index.{mark, field, Lies};
-ghost use Rattle.book.specs.Stands.{Stands};
-ghost use Rattle.book.specs.Tree.{type_of, expr_of, declared_of};
-ghost use Rattle.parts.specs.Parts.{Marked};
-ghost use Rattle.shapes.specs.Shapes.{type_is, products, place_of, is_at, row_type, word_type, all_are, same_all, whole};
-ghost use Rattle.shapes.specs.Wholes.{Elements, Declares, Folding, types_at, takes_at, words_at, value_agrees, result_type, accumulates};
+ghost use Rattle.shapes.specs.Shapes.{products, place_of, is_at, row_type, word_type, all_are, same_all, whole};
+ghost use Rattle.book.specs.Books.{StandsIn, LiesIn, mark_in, field_in};
+ghost use Rattle.parts.specs.Parts.{MarkedIn};
+ghost use Rattle.shapes.specs.Views.{TypeIs, expr_at, type_at};
+ghost use Rattle.shapes.specs.Wholes.{DeclaresIn, ElementsIn, Folding, part_at, value_part, element_type, element_types, arguments, takes_at, words_at, value_agrees, result_type, accumulates};
 
 use crate::part::{
     element_of, has_places, is_array, is_bit, is_list, is_unit, is_word, place, side, type_of,
@@ -19,13 +18,13 @@ use book::format::{
 };
 use book::record::Book;
 use jet::jet_at;
-use parts::view::{Span, span_of};
+use parts::view::{Span, end_of, span_of};
 
 // The declared type of the expression that field j of a record names.
 fn part_type(book: &Book, r: u16, j: usize) -> u16
-    requires lies { Lies book.now.bytes book.now.index r j }
-    requires stands { Stands book.now.bytes book.now.index (field book.now.bytes book.now.index r j) EXPRESSION }
-    ensures { (Stands book.now.bytes book.now.index result TYPE) × (type_of book.now.bytes book.now.index result ≡ type_is (expr_of book.now.bytes book.now.index (field book.now.bytes book.now.index r j))) }
+    requires lies { LiesIn book.now r j }
+    requires stands { StandsIn book.now (field_in book.now r j) EXPRESSION }
+    ensures { TypeIs book.now result (part_at book.now r j) }
 {
     let e = book.field_at(r, j);
     type_of(book, e)
@@ -33,19 +32,19 @@ fn part_type(book: &Book, r: u16, j: usize) -> u16
 
 // The declared type of element k of a row.
 fn element_type(book: &Book, r: u16, span: Span, k: usize) -> u16
-    requires elements { Elements book.now.bytes book.now.index r span.stride span.from span.count }
+    requires elements { ElementsIn book.now r span }
     requires k_in_range { k < span.count }
-    ensures { (Stands book.now.bytes book.now.index result TYPE) × (type_of book.now.bytes book.now.index result ≡ type_is (expr_of book.now.bytes book.now.index (field book.now.bytes book.now.index r (span.from + span.stride * k)))) }
+    ensures { TypeIs book.now result (element_type book.now r span k) }
 {
     part_type(book, r, span.from + span.stride * k)
 }
 
 // Whether a type has the type of element k at place k of the row.
 fn is_placed(book: &Book, t: u16, r: u16, span: Span, k: usize) -> bool
-    requires stands { Stands book.now.bytes book.now.index t TYPE }
-    requires elements { Elements book.now.bytes book.now.index r span.stride span.from span.count }
+    requires stands { StandsIn book.now t TYPE }
+    requires elements { ElementsIn book.now r span }
     requires k_in_range { k < span.count }
-    ensures { result ≡ is_at (place_of products span.count k (type_of book.now.bytes book.now.index t)) (type_is (expr_of book.now.bytes book.now.index (field book.now.bytes book.now.index r (span.from + span.stride * k)))) }
+    ensures { result ≡ is_at (place_of products span.count k (type_at book.now t)) (element_type book.now r span k) }
 {
     let part = element_type(book, r, span, k);
     place(book, TP, t, span.count as u32, k as u32) == Some(part)
@@ -53,9 +52,9 @@ fn is_placed(book: &Book, t: u16, r: u16, span: Span, k: usize) -> bool
 
 // Whether a type is the row of the parts' types.
 pub fn is_row(book: &Book, t: u16, r: u16, span: Span) -> bool
-    requires stands { Stands book.now.bytes book.now.index t TYPE }
-    requires elements { Elements book.now.bytes book.now.index r span.stride span.from span.count }
-    ensures { result ≡ same (type_of book.now.bytes book.now.index t) (row_type (types_at book.now.bytes book.now.index r span.stride span.from span.count)) }
+    requires stands { StandsIn book.now t TYPE }
+    requires elements { ElementsIn book.now r span }
+    ensures { result ≡ same (type_at book.now t) (row_type (element_types book.now r span)) }
 {
     if span.count == 0 {
         return is_unit(book, t);
@@ -65,33 +64,33 @@ pub fn is_row(book: &Book, t: u16, r: u16, span: Span) -> bool
 
 // Whether the parts all have a type.
 fn are_all(book: &Book, t: u16, r: u16, span: Span) -> bool
-    requires stands { Stands book.now.bytes book.now.index t TYPE }
-    requires elements { Elements book.now.bytes book.now.index r span.stride span.from span.count }
-    ensures { result ≡ all_are (type_of book.now.bytes book.now.index t) (types_at book.now.bytes book.now.index r span.stride span.from span.count) }
+    requires stands { StandsIn book.now t TYPE }
+    requires elements { ElementsIn book.now r span }
+    ensures { result ≡ all_are (type_at book.now t) (element_types book.now r span) }
 {
     (0..span.count).all(|k| element_type(book, r, span, k) == t)
 }
 
 // A constant: its value's declared type.
 fn constant(book: &Book, r: u16, t: u16) -> bool
-    requires { Declares book.now.bytes book.now.index r EC t }
-    ensures { result ≡ whole (expr_of book.now.bytes book.now.index r) }
+    requires { DeclaresIn book.now r EC t }
+    ensures { result ≡ whole (expr_at book.now r) }
 {
     value_type(book, r, 1) == t
 }
 
 // A tuple: the row of its parts.
 fn tuple(book: &Book, r: u16, t: u16) -> bool
-    requires { Declares book.now.bytes book.now.index r ET t }
-    ensures { result ≡ whole (expr_of book.now.bytes book.now.index r) }
+    requires { DeclaresIn book.now r ET t }
+    ensures { result ≡ whole (expr_at book.now r) }
 {
     is_row(book, t, r, span_of(book, r, ET))
 }
 
 // A list: of what its last block says, which its elements all are.
 fn list(book: &Book, r: u16, t: u16) -> bool
-    requires { Declares book.now.bytes book.now.index r EL t }
-    ensures { result ≡ whole (expr_of book.now.bytes book.now.index r) }
+    requires { DeclaresIn book.now r EL t }
+    ensures { result ≡ whole (expr_at book.now r) }
 {
     let span = span_of(book, r, EL);
     let bound = book.field_at(r, 1) as u32;
@@ -103,17 +102,17 @@ fn list(book: &Book, r: u16, t: u16) -> bool
 
 // Left or right of a part: the side k of the declared type is the part's.
 fn injection(book: &Book, r: u16, t: u16, k: usize) -> bool
-    requires declares { Declares book.now.bytes book.now.index r (E0 + k) t }
+    requires declares { DeclaresIn book.now r (E0 + k) t }
     requires k_in_range { k < 2 }
-    ensures { result ≡ whole (expr_of book.now.bytes book.now.index r) }
+    ensures { result ≡ whole (expr_at book.now r) }
 {
     side(book, TS, t, k) == Some(part_type(book, r, 1))
 }
 
 // A variant: the declared type has all the places, and that of the index is the payload's row.
 fn variant(book: &Book, r: u16, t: u16) -> bool
-    requires { Declares book.now.bytes book.now.index r EN t }
-    ensures { result ≡ whole (expr_of book.now.bytes book.now.index r) }
+    requires { DeclaresIn book.now r EN t }
+    ensures { result ≡ whole (expr_at book.now r) }
 {
     let span = span_of(book, r, EN);
     let n = book.field_at(r, 2) as u32;
@@ -128,22 +127,19 @@ fn variant(book: &Book, r: u16, t: u16) -> bool
 
 // A block: its end's type, or unit where there is none.
 fn block(book: &Book, r: u16, t: u16) -> bool
-    requires { Declares book.now.bytes book.now.index r EB t }
-    ensures { result ≡ whole (expr_of book.now.bytes book.now.index r) }
+    requires { DeclaresIn book.now r EB t }
+    ensures { result ≡ whole (expr_at book.now r) }
 {
-    let n = book.field_at(r, 1) as usize;
-    let end = book.field_at(r, 2 + n);
-    // The book has 65535 for no end.
-    if end == 65535 {
-        return is_unit(book, t);
+    match end_of(book, r) {
+        Some(end) => type_of(book, end) == t,
+        None => is_unit(book, t),
     }
-    type_of(book, end) == t
 }
 
 // A match of two arms: both are of its type. Its parts are lowered apart, so `span_of` has no row for it.
 fn two_arms(book: &Book, r: u16, t: u16) -> bool
-    requires { Declares book.now.bytes book.now.index r EM t }
-    ensures { result ≡ whole (expr_of book.now.bytes book.now.index r) }
+    requires { DeclaresIn book.now r EM t }
+    ensures { result ≡ whole (expr_at book.now r) }
 {
     let span = Span {
         from: 3,
@@ -155,17 +151,17 @@ fn two_arms(book: &Book, r: u16, t: u16) -> bool
 
 // An enum's match: all arms are of its type.
 fn arms(book: &Book, r: u16, t: u16) -> bool
-    requires { Declares book.now.bytes book.now.index r EH t }
-    ensures { result ≡ whole (expr_of book.now.bytes book.now.index r) }
+    requires { DeclaresIn book.now r EH t }
+    ensures { result ≡ whole (expr_at book.now r) }
 {
     are_all(book, t, r, span_of(book, r, EH))
 }
 
 // Whether a type is a carry beside a word of so many bits.
 fn is_carried(book: &Book, t: u16, bits: u32) -> bool
-    requires stands { Stands book.now.bytes book.now.index t TYPE }
+    requires stands { StandsIn book.now t TYPE }
     requires among { T (among powers bits) }
-    ensures { result ≡ same (type_of book.now.bytes book.now.index t) (product two (word_type bits)) }
+    ensures { result ≡ same (type_at book.now t) (product two (word_type bits)) }
 {
     if book.mark_at(t) != TP {
         return false;
@@ -175,9 +171,9 @@ fn is_carried(book: &Book, t: u16, bits: u32) -> bool
 
 // Whether a type is what a jet gives, by its width: unit, a bit, or a carry beside a word.
 fn is_result(book: &Book, t: u16, bits: u32) -> bool
-    requires stands { Stands book.now.bytes book.now.index t TYPE }
+    requires stands { StandsIn book.now t TYPE }
     requires among { T (among (0 ∷ 1 ∷ 9 ∷ []) bits) }
-    ensures { result ≡ same (type_of book.now.bytes book.now.index t) (result_type bits) }
+    ensures { result ≡ same (type_at book.now t) (result_type bits) }
 {
     match bits {
         0 => is_unit(book, t),
@@ -188,17 +184,17 @@ fn is_result(book: &Book, t: u16, bits: u32) -> bool
 
 // Whether the parts are all words of so many bits.
 fn are_words(book: &Book, r: u16, span: Span, bits: u32) -> bool
-    requires elements { Elements book.now.bytes book.now.index r span.stride span.from span.count }
+    requires elements { ElementsIn book.now r span }
     requires among { T (among powers bits) }
-    ensures { result ≡ all_are (word_type bits) (types_at book.now.bytes book.now.index r span.stride span.from span.count) }
+    ensures { result ≡ all_are (word_type bits) (element_types book.now r span) }
 {
     (0..span.count).all(|k| is_word(book, element_type(book, r, span, k), bits))
 }
 
 // A jet: as many arguments as it takes, which share its input's bits, and its output.
 fn jet(book: &Book, r: u16, t: u16) -> bool
-    requires { Declares book.now.bytes book.now.index r CJ t }
-    ensures { result ≡ whole (expr_of book.now.bytes book.now.index r) }
+    requires { DeclaresIn book.now r CJ t }
+    ensures { result ≡ whole (expr_at book.now r) }
 {
     let span = span_of(book, r, CJ);
     let jet = jet_at(book.field_at(r, 2) as usize);
@@ -211,9 +207,9 @@ fn jet(book: &Book, r: u16, t: u16) -> bool
 
 // An unwrapped part: the side k of its type is the declared one.
 fn unwrap(book: &Book, r: u16, t: u16, k: usize) -> bool
-    requires declares { Declares book.now.bytes book.now.index r (CL + k) t }
+    requires declares { DeclaresIn book.now r (CL + k) t }
     requires k_in_range { k < 2 }
-    ensures { result ≡ whole (expr_of book.now.bytes book.now.index r) }
+    ensures { result ≡ whole (expr_at book.now r) }
 {
     let part = part_type(book, r, 2);
     side(book, TS, part, k) == Some(t)
@@ -221,62 +217,62 @@ fn unwrap(book: &Book, r: u16, t: u16, k: usize) -> bool
 
 // Debug: its part's type.
 fn debug(book: &Book, r: u16, t: u16) -> bool
-    requires { Declares book.now.bytes book.now.index r CD t }
-    ensures { result ≡ whole (expr_of book.now.bytes book.now.index r) }
+    requires { DeclaresIn book.now r CD t }
+    ensures { result ≡ whole (expr_at book.now r) }
 {
     part_type(book, r, 2) == t
 }
 
 // Assert: from a bit to unit.
 fn assert(book: &Book, r: u16, t: u16) -> bool
-    requires { Declares book.now.bytes book.now.index r CA t }
-    ensures { result ≡ whole (expr_of book.now.bytes book.now.index r) }
+    requires { DeclaresIn book.now r CA t }
+    ensures { result ≡ whole (expr_at book.now r) }
 {
     is_bit(book, part_type(book, r, 2)) && is_unit(book, t)
 }
 
 // IsNone: from a sum to a bit.
 fn is_none(book: &Book, r: u16, t: u16) -> bool
-    requires { Declares book.now.bytes book.now.index r CN t }
-    ensures { result ≡ whole (expr_of book.now.bytes book.now.index r) }
+    requires { DeclaresIn book.now r CN t }
+    ensures { result ≡ whole (expr_at book.now r) }
 {
     let part = part_type(book, r, 1);
     side(book, TS, part, 0).is_some() && is_bit(book, t)
 }
 
-// A cast: its part's type.
+// A cast: its part's type. As Debug, but for the mark and the field, which one function for both would have to be told of as a pair.
 fn cast(book: &Book, r: u16, t: u16) -> bool
-    requires { Declares book.now.bytes book.now.index r CK t }
-    ensures { result ≡ whole (expr_of book.now.bytes book.now.index r) }
+    requires { DeclaresIn book.now r CK t }
+    ensures { result ≡ whole (expr_at book.now r) }
 {
     part_type(book, r, 1) == t
 }
 
 // Whether argument k of a call is of the type of its function's parameter k, of n.
 fn is_taken(book: &Book, r: u16, f: u16, n: usize, k: usize) -> bool
-    requires elements { Elements book.now.bytes book.now.index r 1 3 n }
-    requires stands { Stands book.now.bytes book.now.index f FUNCTION }
-    requires n_is { n ≡ field book.now.bytes book.now.index f 1 }
+    requires elements { ElementsIn book.now r (arguments n) }
+    requires stands { StandsIn book.now f FUNCTION }
+    requires n_is { n ≡ field_in book.now f 1 }
     requires k_in_range { k < n }
-    ensures { result ≡ same (type_is (expr_of book.now.bytes book.now.index (field book.now.bytes book.now.index r (3 + k)))) (type_of book.now.bytes book.now.index (field book.now.bytes book.now.index f (3 + 2 * k))) }
+    ensures { result ≡ same (part_at book.now r (3 + k)) (type_at book.now (field_in book.now f (3 + 2 * k))) }
 {
     part_type(book, r, 3 + k) == book.field_at(f, 3 + 2 * k)
 }
 
 // Whether the arguments of a call are what its function takes, of as many parameters.
 fn are_taken(book: &Book, r: u16, f: u16, n: usize) -> bool
-    requires elements { Elements book.now.bytes book.now.index r 1 3 n }
-    requires stands { Stands book.now.bytes book.now.index f FUNCTION }
-    requires n_is { n ≡ field book.now.bytes book.now.index f 1 }
-    ensures { result ≡ same_all (types_at book.now.bytes book.now.index r 1 3 n) (takes_at book.now.bytes book.now.index f 2 n) }
+    requires elements { ElementsIn book.now r (arguments n) }
+    requires stands { StandsIn book.now f FUNCTION }
+    requires n_is { n ≡ field_in book.now f 1 }
+    ensures { result ≡ same_all (element_types book.now r (arguments n)) (takes_at book.now.bytes book.now.index f 2 n) }
 {
     (0..n).all(|k| is_taken(book, r, f, n, k))
 }
 
 // A call: as many arguments as parameters, of their types, and what the function gives.
 fn call(book: &Book, r: u16, t: u16) -> bool
-    requires { Declares book.now.bytes book.now.index r CF t }
-    ensures { result ≡ whole (expr_of book.now.bytes book.now.index r) }
+    requires { DeclaresIn book.now r CF t }
+    ensures { result ≡ whole (expr_at book.now r) }
 {
     let f = book.field_at(r, 1);
     let n = book.field_at(r, 2);
@@ -300,8 +296,8 @@ fn is_accumulator(book: &Book, r: u16, f: u16, t: u16) -> bool
 
 // A list fold.
 fn list_fold(book: &Book, r: u16, t: u16) -> bool
-    requires { Declares book.now.bytes book.now.index r CQ t }
-    ensures { result ≡ whole (expr_of book.now.bytes book.now.index r) }
+    requires { DeclaresIn book.now r CQ t }
+    ensures { result ≡ whole (expr_at book.now r) }
 {
     let f = book.field_at(r, 1);
     if book.field_at(f, 1) != 2 {
@@ -314,8 +310,8 @@ fn list_fold(book: &Book, r: u16, t: u16) -> bool
 
 // An array fold. One function for both folds would be told the mark, and would have both requirements.
 fn array_fold(book: &Book, r: u16, t: u16) -> bool
-    requires { Declares book.now.bytes book.now.index r CY t }
-    ensures { result ≡ whole (expr_of book.now.bytes book.now.index r) }
+    requires { DeclaresIn book.now r CY t }
+    ensures { result ≡ whole (expr_at book.now r) }
 {
     let f = book.field_at(r, 1);
     if book.field_at(f, 1) != 2 {
@@ -328,8 +324,8 @@ fn array_fold(book: &Book, r: u16, t: u16) -> bool
 
 // A loop, whose function takes three: the counter, the accumulator and the context, and what it gives.
 fn for_while(book: &Book, r: u16, t: u16) -> bool
-    requires { Declares book.now.bytes book.now.index r CW t }
-    ensures { result ≡ whole (expr_of book.now.bytes book.now.index r) }
+    requires { DeclaresIn book.now r CW t }
+    ensures { result ≡ whole (expr_at book.now r) }
 {
     let f = book.field_at(r, 1);
     if book.field_at(f, 1) != 3 {
@@ -353,10 +349,10 @@ fn for_while(book: &Book, r: u16, t: u16) -> bool
 
 // Whether expression k of a hash's n is a word of its width.
 fn is_hashed(book: &Book, r: u16, n: usize, k: usize) -> bool
-    requires marked { Marked book.now.bytes book.now.index r CH }
-    requires n_is { n ≡ field book.now.bytes book.now.index r 2 }
+    requires marked { MarkedIn book.now r CH }
+    requires n_is { n ≡ field_in book.now r 2 }
     requires k_in_range { k < n }
-    ensures { result ≡ same (type_is (expr_of book.now.bytes book.now.index (field book.now.bytes book.now.index r (4 + 2 * k)))) (word_type (field book.now.bytes book.now.index r (3 + 2 * k))) }
+    ensures { result ≡ same (part_at book.now r (4 + 2 * k)) (word_type (field_in book.now r (3 + 2 * k))) }
 {
     let bits = book.field_at(r, 3 + 2 * k) as u32;
     is_word(book, part_type(book, r, 4 + 2 * k), bits)
@@ -364,8 +360,8 @@ fn is_hashed(book: &Book, r: u16, n: usize, k: usize) -> bool
 
 // Whether a hash's n expressions are words of their widths.
 fn are_hashed(book: &Book, r: u16, n: usize) -> bool
-    requires marked { Marked book.now.bytes book.now.index r CH }
-    requires n_is { n ≡ field book.now.bytes book.now.index r 2 }
+    requires marked { MarkedIn book.now r CH }
+    requires n_is { n ≡ field_in book.now r 2 }
     ensures { result ≡ words_at book.now.bytes book.now.index r 3 n }
 {
     (0..n).all(|k| is_hashed(book, r, n, k))
@@ -373,8 +369,8 @@ fn are_hashed(book: &Book, r: u16, n: usize) -> bool
 
 // A hash: words of their widths, to a word of 256 bits.
 fn hash(book: &Book, r: u16, t: u16) -> bool
-    requires { Declares book.now.bytes book.now.index r CH t }
-    ensures { result ≡ whole (expr_of book.now.bytes book.now.index r) }
+    requires { DeclaresIn book.now r CH t }
+    ensures { result ≡ whole (expr_at book.now r) }
 {
     let n = book.field_at(r, 2) as usize;
     are_hashed(book, r, n) && is_word(book, t, 256)
@@ -382,9 +378,9 @@ fn hash(book: &Book, r: u16, t: u16) -> bool
 
 // A call, by its mark.
 fn call_agrees(book: &Book, r: u16, m: u8, t: u16) -> bool
-    requires declares { Declares book.now.bytes book.now.index r m t }
+    requires declares { DeclaresIn book.now r m t }
     requires m_in_range { CJ ≤ m }
-    ensures { result ≡ whole (expr_of book.now.bytes book.now.index r) }
+    ensures { result ≡ whole (expr_at book.now r) }
 {
     match m {
         CJ => jet(book, r, t),
@@ -405,8 +401,8 @@ fn call_agrees(book: &Book, r: u16, m: u8, t: u16) -> bool
 
 // An expression, by its mark. A variable is judged in its scope.
 pub fn agrees(book: &Book, r: u16, m: u8) -> bool
-    requires { Marked book.now.bytes book.now.index r m }
-    ensures { result ≡ whole (expr_of book.now.bytes book.now.index r) }
+    requires { MarkedIn book.now r m }
+    ensures { result ≡ whole (expr_at book.now r) }
 {
     let t = book.field_at(r, 0);
     if CJ <= m {
@@ -428,9 +424,9 @@ pub fn agrees(book: &Book, r: u16, m: u8) -> bool
 
 // The declared type of the value that field k of a record names.
 fn value_type(book: &Book, r: u16, k: usize) -> u16
-    requires lies { Lies book.now.bytes book.now.index r k }
-    requires stands { Stands book.now.bytes book.now.index (field book.now.bytes book.now.index r k) VALUE }
-    ensures { (Stands book.now.bytes book.now.index result TYPE) × (type_of book.now.bytes book.now.index result ≡ declared_of book.now.bytes book.now.index (field book.now.bytes book.now.index r k)) }
+    requires lies { LiesIn book.now r k }
+    requires stands { StandsIn book.now (field_in book.now r k) VALUE }
+    ensures { TypeIs book.now result (value_part book.now r k) }
 {
     let v = book.field_at(r, k);
     book.field_at(v, 0)
@@ -438,9 +434,9 @@ fn value_type(book: &Book, r: u16, k: usize) -> u16
 
 // A value that is a pair.
 fn pair_agrees(book: &Book, r: u16, t: u16) -> bool
-    requires stands { Stands book.now.bytes book.now.index r VALUE }
-    requires mark_is { mark book.now.bytes book.now.index r ≡ VP }
-    requires t_is { t ≡ field book.now.bytes book.now.index r 0 }
+    requires stands { StandsIn book.now r VALUE }
+    requires mark_is { mark_in book.now r ≡ VP }
+    requires t_is { t ≡ field_in book.now r 0 }
     ensures { result ≡ value_agrees book.now.bytes book.now.index r }
 {
     if book.mark_at(t) != TP {
@@ -451,7 +447,7 @@ fn pair_agrees(book: &Book, r: u16, t: u16) -> bool
 
 // A value, by its mark.
 pub fn value_agrees(book: &Book, r: u16) -> bool
-    requires { Stands book.now.bytes book.now.index r VALUE }
+    requires { StandsIn book.now r VALUE }
     ensures { result ≡ value_agrees book.now.bytes book.now.index r }
 {
     let t = book.field_at(r, 0);

@@ -7,7 +7,7 @@ use mathlib.Core.Path.{◌≡◌, refl, sym, ap, subst, ◌∙◌}
 use native.Mathlib.Omega.{arith}
 use lib.Dec.{T, eqb, ltb, leb, leb→le, eqb→eq}
 use lib.ListN.{get_or}
-use Rattle.std.specs.Prelude.{Ok}
+use Rattle.std.specs.Prelude.{Ok, Some}
 use Rattle.std.specs.Result.{result_and}
 use Rattle.laws.specs.Table.{pick, both, among, both_left, both_right}
 use Rattle.book.specs.Format.{PATTERN, EXPRESSION, STATEMENT, FUNCTION, SA, SE, EB, EM, EH, CK, FN, END, within, in_range}
@@ -17,7 +17,8 @@ use Rattle.book.specs.Tree.{expr_of}
 use Rattle.book.proofs.Built.{group_next, group_none}
 use Rattle.book.proofs.Roles.{Field, layout, is_kind, names_end, head_field, each_field, last_field}
 use Rattle.book.proofs.Standing.{stands_mark, field_in, field_stands, field_below, end_stands, end_below, head_lies, head_most, head_ranged, function_mark}
-use Rattle.parts.specs.Parts.{Marked, Spanned, row_marks, span_at}
+use Rattle.parts.specs.Parts.{Marked, Spanned, row_marks, span_at, block_end}
+use Rattle.parts.proofs.Blocks.{ended_is, ended_some}
 use Rattle.parts.specs.declared.view.Span.{Span}
 use Rattle.parts.proofs.Spans.{span_field, stmt_field, does_mark}
 use Rattle.binders.specs.Binders.{Binding}
@@ -81,9 +82,6 @@ module _ {b i : List ℕ} {r m : ℕ} (k : Stands b i r EXPRESSION) (e : m ≡ m
   pub marked : Marked b i r m
   marked = record { stands = k; is = sym e }
 
-  pub marked_at : (n : ℕ) → m ≡ n → Marked b i r n
-  marked_at n z = record { stands = k; is = sym e ∙ z }
-
 -- a block's statements, and its end
 module _ {b i : List ℕ} {r : ℕ} (g : Marked b i r EB) where
   pub block_lies : Lies b i r 1
@@ -92,23 +90,17 @@ module _ {b i : List ℕ} {r : ℕ} (g : Marked b i r EB) where
   pub block_most : {n : ℕ} → n ≡ field b i r 1 → n ≤ 256
   block_most e = rw e (head_most g.stands EB g.is 1 tt refl)
 
-  module _ (k : ℕ) (h : k < field b i r 1) where
-    pub stmt_part : {x : ℕ} → x ≡ field b i r (2 + k) → Part b i r x STATEMENT
-    stmt_part e = part_of g.stands (stmt_field g k h) tt e
+  pub stmt_part : (k : ℕ) → k < field b i r 1 → {x : ℕ} → x ≡ field b i r (2 + k) → Part b i r x STATEMENT
+  stmt_part k h e = part_of g.stands (stmt_field g k h) tt e
 
-  module _ (n : ℕ) (z : n ≡ field b i r 1) where
-    end_field : Field b i r (2 + n) END
-    end_field = last_field b i r EB g.is (2 + n) (rw z (omega arith)) tt
+  end_field : Field b i r (2 + field b i r 1) END
+  end_field = last_field b i r EB g.is (2 + field b i r 1) (omega arith) tt
 
-    pub end_lies : Lies b i r (2 + n)
-    end_lies = field_in g.stands end_field
-
-    pub end_part : {x : ℕ} → x ≡ field b i r (2 + n) → (x ≡ 65535 → ⊥) → Part b i r x EXPRESSION
-    end_part e some =
-        let o : field b i r (2 + n) ≡ 65535 → ⊥ = λ q. some (e ∙ q) in
-        let l = end_below g.stands end_field refl o in
-        let y : named b i r (2 + n) ≡ EXPRESSION = rw end_field.is (names_end (field b i r (2 + n)) o) in
-        rw e (record { stands = end_stands g.stands end_field refl o; below = l; shallower = field_shallower end_field y (λ q. omega arith) l })
+  pub end_part : {x : ℕ} → Some x ≡ block_end (field b i r) → Part b i r x EXPRESSION
+  end_part q =
+      let l = end_below g.stands end_field refl (ended_some _ q) in
+      let y : named b i r (2 + field b i r 1) ≡ EXPRESSION = rw end_field.is (names_end (field b i r (2 + field b i r 1)) (ended_some _ q)) in
+      rw (ended_is (field b i r) q) (record { stands = end_stands g.stands end_field refl (ended_some _ q); below = l; shallower = field_shallower end_field y (λ q. omega arith) l })
 
 -- what a statement names
 module _ {b i : List ℕ} {s : ℕ} (k : Stands b i s STATEMENT) where
@@ -197,9 +189,6 @@ module _ {b i : List ℕ} {r : ℕ} (g : Marked b i r CK) where
 module _ {b i : List ℕ} {f : ℕ} (k : Stands b i f FUNCTION) where
   pub params_lie : Lies b i f 1
   params_lie = head_lies k FN (function_mark k) 1 tt
-
-  pub params_most : {n : ℕ} → n ≡ field b i f 1 → n ≤ 256
-  params_most e = rw e (head_most k FN (function_mark k) 1 tt refl)
 
   pub gives_lies : Lies b i f 0
   gives_lies = head_lies k FN (function_mark k) 0 tt

@@ -17,7 +17,7 @@ use Rattle.book.specs.Index.{mark, field}
 use Rattle.book.specs.Stands.{Stands}
 use Rattle.book.specs.Tree.{type_of, pattern_of, expr_of, fun_of, as_fun}
 use Rattle.book.specs.declared.fault.Fault.TheVariants as faults
-use Rattle.book.proofs.Standing.{stands_tree, stands_few, head_stands, function_mark}
+use Rattle.book.proofs.Standing.{stands_tree, head_stands, function_mark}
 use Rattle.parts.specs.Parts.{Marked}
 use Rattle.pattern.specs.Find.{params_of}
 use Rattle.shapes.specs.Shapes.{type_is}
@@ -48,10 +48,6 @@ module _ {b i : List ℕ} {q : Judge} {n : ℕ} {base : Answer ℕ} (s : Scoped 
   variable_some t d o l =
       let k : Stands b i t TYPE = rw o (head_stands g.stands EV g.is 0 tt tt) in
       sought (l ∙ sym (variable_is b i r (scope_of b i q.bindings n base) g ∙ rw (← z, gives_some d, ← o, ← types_same k (gives_stands d))))
-
--- the row that says which records have a name twice has an entry for each that stands
-pub doubled_long : {b i : List ℕ} {q : Judge} {r kd : ℕ} → Rows b i q → Stands b i r kd → r < length q.doubled.now
-doubled_long o k = omega (arith, stands_few k, o.long)
 
 -- another memo and another row of bindings, and the rest as it was
 pub record Beside (q : Judge) (m : List ℕ) (bs : List Entry) (q' : Judge) : Type 0 where

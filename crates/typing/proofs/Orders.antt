@@ -13,7 +13,7 @@ use Rattle.std.specs.Prelude.{Ok, Err, None}
 use Rattle.std.specs.Result.{result_and}
 use Rattle.laws.specs.Order.{by_lt}
 use Rattle.laws.specs.Table.{among, every, ◌also◌}
-use Rattle.book.specs.Format.{VALUE, PATTERN, FUNCTION, EXPRESSION, PI, PN, PT, FN, kind_of}
+use Rattle.book.specs.Format.{VALUE, PATTERN, FUNCTION, PI, PN, PT, FN, kind_of}
 use Rattle.book.specs.Index.{mark, kind, field, Begins}
 use Rattle.book.specs.Read.{mark_at, kind_at, field_at, read_of, index_of, Outcome, done, refused, reading, places_of}
 use Rattle.book.specs.Read as read
@@ -28,7 +28,7 @@ use Rattle.book.proofs.Standing.{stands_mark, stands_tree, head_below, each_belo
 use Rattle.shapes.specs.Wholes.{value_agrees}
 use Rattle.binders.specs.Binders.{names, twice, root_scope}
 use Rattle.binders.specs.declared.Binding.{Binding as Entry}
-use Rattle.binders.specs.Memos.{Known, Doubled, Live, scope_of}
+use Rattle.binders.specs.Memos.{Known, Doubled, scope_of}
 use Rattle.typing.specs.Check.{Checked, agree, check, check_fun}
 use Rattle.typing.specs.declared.cycle.Judge.{Judge}
 use Rattle.typing.specs.Cycle.{Among, Rows, Stays}
@@ -36,9 +36,6 @@ use Rattle.typing.proofs.Judging.{Handed, first_halts, first_passes}
 use Rattle.typing.specs.Whole.{in_order, value_at, function_at, checking, answer_of, check_of}
 
 -- a record of a valid book
-pub among_of : {b i : List ℕ} {n r : ℕ} → Valid b i n → r < n → Among b i r
-among_of v h = record { records = _; valid = v; inside = h }
-
 pub among_begins : {b i : List ℕ} {r : ℕ} → Among b i r → Begins b i r
 among_begins {r = r} a = record_begins a.valid r a.inside
 
@@ -71,9 +68,6 @@ module _ {b i : List ℕ} {r : ℕ} (a : Among b i r) {m k : ℕ} (e : m ≡ mar
 
 -- the records from r on: the first, and the others
 module _ (f : ℕ → Checked) (n : ℕ) where
-  pub order_start : in_order f 0 n ≡ in_order f 0 (n - 0)
-  order_start = let z : n - 0 ≡ n = omega arith in rw z
-
   pub order_next : (r s : ℕ) → r < n → s ≡ r + 1 → in_order f r (n - r) ≡ result_and (f r) (in_order f s (n - s))
   unfolding in_order
   order_next r s h e =
@@ -98,21 +92,12 @@ abbrev pattern_marks : List ℕ
 pattern_marks = PI ∷ PN ∷ PT ∷ []
 
 -- the root's scope
-pub root_live : {b i : List ℕ} {bs : List Entry} → Live b i bs 0 None
-root_live = record { room = omega arith; each = λ j h. absurd (omega arith); based = λ f e. absurd (let z : ◌≡◌ {A = ℕ} 0 1 = cc in omega arith) }
-
 pub root_scope_lem : (b i : List ℕ) (bs : List Entry) → scope_of b i bs 0 None ≡ root_scope
 unfolding scope_of
 root_scope_lem b i bs = refl
 
-pub root_stands : {b i : List ℕ} {n : ℕ} → Valid b i n → Stands b i (n - 1) EXPRESSION
-root_stands v = record { records = _; valid = v; inside = omega (arith, v.some); is = v.root }
-
 -- the functions, and then the root
 module _ {b i : List ℕ} (n : ℕ) {q : Judge} {c : Checked} {q₁ : Judge} (f : Stays b i (in_order (function_at b i) 0 n) 0 q c q₁) where
-  pub functions_halt : {a : Checked} → Handed c a → a ≡ result_and (in_order (function_at b i) 0 n) (check (expr_of b i (n - 1)) root_scope)
-  functions_halt h = first_halts _ h f.is
-
   pub root_last : {x : Checked} {q₂ : Judge} → c ≡ Ok tt → Stays b i (check (expr_of b i (n - 1)) (scope_of b i q₁.bindings 0 None)) 0 q₁ x q₂ → x ≡ result_and (in_order (function_at b i) 0 n) (check (expr_of b i (n - 1)) root_scope)
   root_last h g = g.is ∙ ap (check (expr_of b i (n - 1))) (root_scope_lem b i q₁.bindings) ∙ sym (first_passes _ h f.is)
 

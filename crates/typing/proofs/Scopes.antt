@@ -6,9 +6,10 @@ use mathlib.Core.List.{List, ◌∷◌}
 use mathlib.Core.Path.{◌≡◌, refl, ap, ◌∙◌}
 use native.Mathlib.Omega.{arith}
 use native.Mathlib.Numerals.{add-one}
-use lib.ListN.{length, get_or, set, length-set}
+use lib.ListN.{length, get_or, set, take, length-set}
 use lib.Seq.{get_or-set_same, get_or-set_other}
 use Rattle.std.specs.Prelude.{Option as Answer}
+use Rattle.std.proofs.lemmas.List.{get_or-take, length-take-le}
 use Rattle.laws.specs.Order.{by_lt}
 use Rattle.book.specs.Tree.{type_of, pattern_of}
 use Rattle.binders.specs.Binders.{binding}
@@ -79,3 +80,17 @@ module _ {b i : List ℕ} {q : Judge} {n : ℕ} {base : Answer ℕ} (s : Scoped 
     };
     is = rw (wider_last, scope_same b i q.bindings wider base n wider_before);
   })
+
+-- the live bindings alone, as they are lent for a name's search
+module _ {b i : List ℕ} {q : Judge} {n : ℕ} {base : Answer ℕ} (s : Scoped b i q n base) where
+  lent_same : (j : ℕ) → j < n → entry_at (take n q.bindings) j ≡ entry_at q.bindings j
+  lent_same j h = get_or-take n q.bindings j _ h
+
+  lent_length : length (take n q.bindings) ≡ n
+  lent_length = length-take-le n q.bindings s.live.room
+
+  pub lent_live : Live b i (take n q.bindings) (length (take n q.bindings)) base
+  lent_live = rw lent_length (record { room = omega (arith, lent_length); each = λ j o. rw (lent_same j o) (s.live.each j o); based = s.live.based })
+
+  pub lent_scope : scope_of b i (take n q.bindings) (length (take n q.bindings)) base ≡ scope_of b i q.bindings n base
+  lent_scope = rw lent_length (scope_same b i q.bindings (take n q.bindings) base n lent_same)

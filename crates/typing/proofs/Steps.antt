@@ -10,7 +10,7 @@ use native.Mathlib.Omega.{arith}
 use native.Mathlib.Numerals.{add-one}
 use borrow.Author.Tests.{eq-eqb, ne_eqb}
 use lib.Dec.{T, eqb}
-use Rattle.std.specs.Prelude.{Ok, Option as Answer, Some}
+use Rattle.std.specs.Prelude.{Ok, Option as Answer, Some, None}
 use Rattle.std.specs.Result.{result_and}
 use Rattle.laws.specs.Table.{pick, all_below}
 use Rattle.simplicity.specs.Types.{Ty, one, same}
@@ -18,7 +18,7 @@ use Rattle.book.specs.Format.{STATEMENT, SA, EB, EM, EH, EV, CK}
 use Rattle.book.specs.Index.{mark, field}
 use Rattle.book.specs.Stands.{Stands}
 use Rattle.book.specs.Tree.{type_of, pattern_of, expr_of}
-use Rattle.parts.specs.Parts.{Marked, Spanned}
+use Rattle.parts.specs.Parts.{Marked, Spanned, block_end}
 use Rattle.parts.specs.declared.view.Span.{Span}
 use Rattle.shapes.specs.Shapes.{type_is, sums, place_of, is_there, has_places, whole}
 use Rattle.shapes.specs.Views.{Gives}
@@ -31,6 +31,7 @@ use Rattle.typing.specs.Cycle.{Scoped, Stays, Bound, Stated, Places, checks_at, 
 use Rattle.shapes.proofs.Same.{gives_there, gives_some}
 use Rattle.typing.proofs.Judging.{passed_holds, Handed, handed_not, first_halts, first_passes, at_once, stays_as, stays_on, stays_next, stays_halt}
 use Rattle.typing.proofs.Marks.{parts_is, stmts_next, end_none, end_some}
+use Rattle.parts.proofs.Blocks.{unended, ended_is, ended_some}
 use Rattle.typing.proofs.Facts.{checks_next}
 use Rattle.typing.proofs.Scopes.{stays_scope, stays_rows, stays_scoped}
 
@@ -89,10 +90,6 @@ module _ {b i : List ℕ} (r : ℕ) {p t e n : ℕ} {base : Answer ℕ} {q : Jud
   unfolding arm_of
   arm_halt h = rw (← z, ← y) (both_halt d.stays _ h)
 
--- after a binding there is one more
-pub bound_scoped : {b i : List ℕ} {q : Judge} {n p t : ℕ} {base : Answer ℕ} {v c : Checked} {q₁ : Judge} → Bound b i v p t n base q c q₁ → c ≡ Ok tt → Scoped b i q n base → Scoped b i q₁ (n + 1) base
-bound_scoped d e s = record { rows = stays_rows d.stays s.rows; live = (d.newer e).live }
-
 -- where there is a type
 is_there_lem : {o : Option Ty} {t : Ty} → o ≡ some t → there o ≡ t
 unfolding there
@@ -136,9 +133,6 @@ module _ (b i : List ℕ) (r from n : ℕ) (t : Ty) (sc : List Binding) where
   pub arms_none : (k : ℕ) → n ≤ k → Ok tt ≡ arms_from b i r from n t sc k (n - k)
   unfolding arms_from
   arms_none k h = let z : n - k ≡ 0 = omega arith in rw z
-
-  pub arms_start : arms_from b i r from n t sc 0 n ≡ arms_from b i r from n t sc 0 (n - 0)
-  arms_start = let z : n - 0 ≡ n = omega arith in rw z
 
 -- a match, after its scrutinee's type was looked at
 module _ (b i : List ℕ) (r from n : ℕ) (sc : List Binding) {e : ℕ} (t : ℕ) (z : e ≡ field b i r 1) (y : type_of b i t ≡ type_is (expr_of b i e)) where
@@ -195,16 +189,16 @@ module _ {b i : List ℕ} {r n live : ℕ} {base : Answer ℕ} {q q₁ : Judge} 
         }
 
   -- the end of the block
-  module _ {e : ℕ} (h : k ≡ n) (z : e ≡ field b i r (2 + n)) where
-    no_more : statements (stmts_of b i r (2 + k) (n - k)) (scope_of b i q₁.bindings at base) ≡ statements (stmts_of b i r (2 + n) 0) (scope_of b i q₁.bindings at base)
-    no_more = let x : n - n ≡ 0 = omega arith in rw (h, x)
+  module _ (h : k ≡ n) (z : n ≡ field b i r 1) where
+    no_more : statements (stmts_of b i r (2 + k) (n - k)) (scope_of b i q₁.bindings at base) ≡ statements (stmts_of b i r (2 + field b i r 1) 0) (scope_of b i q₁.bindings at base)
+    no_more = let x : n - n ≡ 0 = omega arith in rw (h, x, z)
 
-    pub block_none : e ≡ 65535 → Stays b i (block_of b i r (scope_of b i q.bindings live base)) live q (Ok tt) q₁
-    block_none f = stays_as g.stays (sym (no_more ∙ end_none b i r _ (2 + n) (sym z ∙ f)))
+    pub block_none : None ≡ block_end (field b i r) → Stays b i (block_of b i r (scope_of b i q.bindings live base)) live q (Ok tt) q₁
+    block_none f = stays_as g.stays (sym (no_more ∙ end_none b i r _ _ (unended _ f)))
 
-    pub block_end : {c : Checked} {q₂ : Judge} → (e ≡ 65535 → ⊥) → Stays b i (check (expr_of b i e) (scope_of b i q₁.bindings at base)) at q₁ c q₂ → Stays b i (block_of b i r (scope_of b i q.bindings live base)) live q c q₂
-    block_end f d =
-        let y : check (expr_of b i e) (scope_of b i q₁.bindings at base) ≡ statements (stmts_of b i r (2 + k) (n - k)) (scope_of b i q₁.bindings at base) = sym (no_more ∙ end_some b i r _ (2 + n) (λ o. f (z ∙ o)) ∙ rw (← z)) in
+    pub block_ended : {e : ℕ} {c : Checked} {q₂ : Judge} → Some e ≡ block_end (field b i r) → Stays b i (check (expr_of b i e) (scope_of b i q₁.bindings at base)) at q₁ c q₂ → Stays b i (block_of b i r (scope_of b i q.bindings live base)) live q c q₂
+    block_ended {e} f d =
+        let y : check (expr_of b i e) (scope_of b i q₁.bindings at base) ≡ statements (stmts_of b i r (2 + k) (n - k)) (scope_of b i q₁.bindings at base) = sym (no_more ∙ end_some b i r _ _ (ended_some _ f) ∙ rw (← ended_is (field b i r) f)) in
         stays_on (stays_as g.stays y) d g.from
 
 -- a statement that is an expression alone

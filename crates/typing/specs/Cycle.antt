@@ -7,6 +7,7 @@ use Rattle.simplicity.specs.Types.{Ty, one, same}
 use Rattle.book.specs.Format.{TYPE, PATTERN, EXPRESSION, FUNCTION, SA, EB, EM, EH, CK}
 use Rattle.book.specs.Index.{mark, field, depth, Lies}
 use Rattle.book.specs.Stands.{Stands}
+use Rattle.book.specs.Text.{Text}
 use Rattle.book.specs.Valid.{Valid}
 use Rattle.book.specs.Tree.{Stmts, stmts_at, group, tree, type_of, pattern_of, expr_of}
 use Rattle.parts.specs.Parts.{span_at}
@@ -15,6 +16,7 @@ use Rattle.binders.specs.Binders.{Binding, binding}
 use Rattle.binders.specs.declared.Binding.{Binding as Entry}
 use Rattle.binders.specs.Memos.{Known, pattern_twice, params_twice, Live, entry_at, scope_of}
 use Rattle.typing.specs.declared.cycle.Judge.{Judge}
+use Rattle.typing.specs.declared.cycle.Scope.{Scope}
 use Rattle.typing.specs.Check.{Checked, agree, binds, variant_type, check, statements}
 
 -- one of a valid book's records
@@ -23,7 +25,8 @@ pub record Among (b i : List ℕ) (r : ℕ) : Type 0 where
   pub valid : Valid b i records
   pub inside : r < records
 
--- what a judgement works on: which patterns and functions have a name twice, which pairs are known to fit, which records were searched in vain, and the live bindings, with room for 256 of them at each of 255 depths
+-- what a judgement works on: which patterns and functions have a name twice, which pairs are known to fit, which records were searched in vain,
+-- and the live bindings, with room for 256 of them at each of 255 depths
 pub record Rows (b i : List ℕ) (q : Judge) : Type 0 where
   pub long : length q.doubled.now ≡ 4096
   pub patterns : (r : ℕ) → Stands b i r PATTERN → get_or q.doubled.now r false ≡ pattern_twice b i r
@@ -136,3 +139,30 @@ pub record ArmsAt (b i : List ℕ) (r from n : ℕ) : Type 0 where
 pub record Places (b i : List ℕ) (t n : ℕ) : Type 0 where
   pub type : Stands b i t TYPE
   pub all : has_places n (type_of b i t) ≡ true
+
+-- what the contracts say of a book that was read
+module _ (t : Text) where
+  -- a scope's bindings are live in the rows of a judgement; and there is room for those of record r too, so that it can be judged
+  abbrev pub ScopedIn : Judge → Scope → Type 0
+  ScopedIn q s = Scoped t.bytes t.index q s.live s.base
+
+  abbrev pub Judgeable : ℕ → Judge → Scope → Type 0
+  Judgeable r q s = ScopedIn q s × (Enough t.bytes t.index r s.live)
+
+  -- c is what `rule` gives of the bindings in scope; the names and those bindings stay as they were
+  abbrev pub Judges : (List Binding → Checked) → Scope → Judge → Checked → Judge → Type 0
+  Judges rule s q c q' = Stays t.bytes t.index (rule (scope_of t.bytes t.index q.bindings s.live s.base)) s.live q c q'
+
+  -- pattern p was bound to type ty, at record r; statement r was judged
+  abbrev pub BoundIn : ℕ → ℕ → ℕ → Scope → Judge → Checked → Judge → Type 0
+  BoundIn r p ty s q c q' = Bound t.bytes t.index (binds r (pattern_of t.bytes t.index p) (type_of t.bytes t.index ty)) p ty s.live s.base q c q'
+
+  abbrev pub StatedIn : ℕ → Scope → Judge → Checked → Judge → Type 0
+  StatedIn r s q c q' = Stated t.bytes t.index r s.live s.base q c q'
+
+  -- the rules of a whole expression, and of the n arms of a match on type ty
+  abbrev pub checked : ℕ → List Binding → Checked
+  checked r sc = check (expr_of t.bytes t.index r) sc
+
+  abbrev pub all_arms : ℕ → ℕ → ℕ → ℕ → List Binding → Checked
+  all_arms r from n ty sc = arms_from t.bytes t.index r from n (type_of t.bytes t.index ty) sc 0 n

@@ -7,6 +7,7 @@ use Rattle.laws.specs.Table.{pick}
 use Rattle.book.specs.Format.{VALUE, FUNCTION}
 use Rattle.book.specs.Index.{kind}
 use Rattle.book.specs.Read.{read_of, index_of}
+use Rattle.book.specs.Text.{Text}
 use Rattle.book.specs.Tree.{expr_of, fun_of}
 use Rattle.shapes.specs.Wholes.{value_agrees}
 use Rattle.binders.specs.Binders.{root_scope}
@@ -38,3 +39,7 @@ answer_of n (Err w) = Err w
 -- document 01, Refusals by number: READ's refusal, or what is judged of the records
 unfoldable pub check_of : List ℕ → Result ℕ Refusal
 check_of b = elim (read_of b) [ Ok n ↦ answer_of n (checking b (index_of b) n) | Err w ↦ Err w ]
+
+-- of a book that was read: the functions of its n records, and then the root
+abbrev pub after_values : Text → ℕ → Checked
+after_values t n = result_and (in_order (function_at t.bytes t.index) 0 n) (check (expr_of t.bytes t.index (n - 1)) root_scope)

@@ -2,23 +2,23 @@
 ghost use Rattle.std.specs.Prelude.{◌≡◌, ◌<◌};
 ghost use Rattle.book.specs.Format.{TYPE, PATTERN, EXPRESSION, STATEMENT, FUNCTION, EV, EB, SA};
 ghost use Rattle.book.specs.Index.{mark};
-ghost use Rattle.book.specs.Stands.{Stands};
-ghost use Rattle.book.specs.Tree.{type_of, pattern_of, expr_of, fun_of};
-ghost use Rattle.parts.specs.Parts.{Marked};
-ghost use Rattle.binders.specs.Memos.{scope_of};
-ghost use Rattle.typing.specs.Check.{agree, hold, binds, check, check_fun};
-ghost use Rattle.typing.specs.Cycle.{Rows, Scoped, Enough, Stays, Bound, Stated, ArmAt, ArmsAt, Places, parts_of, row_of, match_of, arms_from, arm_of, statement_of, block_of, live_after};
+ghost use Rattle.book.specs.Tree.{type_of, fun_of};
+ghost use Rattle.typing.specs.Check.{agree, hold, check_fun};
+ghost use Rattle.book.specs.Books.{StandsIn};
+ghost use Rattle.parts.specs.Parts.{MarkedIn};
+ghost use Rattle.typing.specs.Cycle.{Rows, Stays, ArmAt, ArmsAt, Places, parts_of, row_of, match_of, arm_of, statement_of, block_of, live_after, ScopedIn, Judgeable, Judges, BoundIn, StatedIn, checked, all_arms};
 
 use binders::{Binding, fits, type_for};
 use book::fault::{Fault, Refusal};
 use book::format::{CK, EB, EH, EM, EV, SA, TS};
 use book::record::Book;
-use parts::view::span_of;
+use parts::view::{end_of, span_of};
 use shapes::part::{has_places, is_unit, place, type_of};
 use shapes::whole::agrees;
 
 // What judgements work on: `doubled` says which patterns and functions have a name twice, `memo` which patterns are known to fit which types,
-// `vain` serves a name's search, and `bindings` has the live bindings, with room for 256 of them at each depth.
+// `vain` serves a name's search, and `bindings` has the live bindings, with room for 256 of them at each depth. The book is no field: a
+// judge is lent by `&mut`, and each promise would have to add that the book in it stays.
 #[derive(Drop)]
 pub struct Judge<'a> {
     pub doubled: &'a [bool],
@@ -54,7 +54,7 @@ pub fn agree(holds: bool, r: u16) -> Result<(), Refusal>
 
 // How many bindings are live after statement s.
 fn entered(book: &Book, s: u16, live: usize) -> usize
-    requires stands { Stands book.now.bytes book.now.index s STATEMENT }
+    requires stands { StandsIn book.now s STATEMENT }
     requires live_in_range { live < 65280 }
     ensures { result ≡ live_after book.now.bytes book.now.index s live }
 {
@@ -68,15 +68,14 @@ fn entered(book: &Book, s: u16, live: usize) -> usize
 impl Judge<'_> {
     // A variable: its name's type is the declared one.
     fn variable(&mut self, book: &Book, r: u16, scope: Scope) -> Result<(), Refusal>
-        requires marked { Marked book.now.bytes book.now.index r EV }
-        requires scoped { Scoped book.now.bytes book.now.index self.old scope.live scope.base }
-        ensures { Stays book.now.bytes book.now.index (check (expr_of book.now.bytes book.now.index r) (scope_of book.now.bytes book.now.index self.old.bindings scope.live scope.base)) scope.live self.old result self.new }
+        requires marked { MarkedIn book.now r EV }
+        requires scoped { ScopedIn book.now self.old scope }
+        ensures { Judges book.now (checked book.now r) scope self.old result self.new }
     {
         let name = book.field_at(r, 1);
         let Some(found) = type_for(
             book,
-            &self.bindings,
-            scope.live,
+            &self.bindings[..scope.live],
             scope.base,
             name,
             &mut self.vain,
@@ -91,11 +90,11 @@ impl Judge<'_> {
 
     // A pattern where its binding is made, at record r: it fits, and has no name twice. It becomes the newest binding.
     fn bind(&mut self, book: &Book, r: u16, p: u16, t: u16, scope: Scope) -> Result<(), Refusal>
-        requires stands { Stands book.now.bytes book.now.index p PATTERN }
-        requires stands_t { Stands book.now.bytes book.now.index t TYPE }
-        requires scoped { Scoped book.now.bytes book.now.index self.old scope.live scope.base }
+        requires stands { StandsIn book.now p PATTERN }
+        requires stands_t { StandsIn book.now t TYPE }
+        requires scoped { ScopedIn book.now self.old scope }
         requires live_in_range { scope.live < 65280 }
-        ensures { Bound book.now.bytes book.now.index (binds r (pattern_of book.now.bytes book.now.index p) (type_of book.now.bytes book.now.index t)) p t scope.live scope.base self.old result self.new }
+        ensures { BoundIn book.now r p t scope self.old result self.new }
     {
         agree(fits(book, p, t, self.memo), r)?;
         hold(!self.doubled[p as usize], Fault::Name, r)?;
@@ -106,8 +105,8 @@ impl Judge<'_> {
     // An expression, where so many bindings are live: its parts, and then the whole. A variable has no parts.
     #[cycle(checking)]
     pub fn expression(&mut self, book: &Book, r: u16, scope: Scope) -> Result<(), Refusal>
-        requires { (Stands book.now.bytes book.now.index r EXPRESSION) × ((Scoped book.now.bytes book.now.index self.old scope.live scope.base) × (Enough book.now.bytes book.now.index r scope.live)) }
-        ensures { Stays book.now.bytes book.now.index (check (expr_of book.now.bytes book.now.index r) (scope_of book.now.bytes book.now.index self.old.bindings scope.live scope.base)) scope.live self.old result self.new }
+        requires { (StandsIn book.now r EXPRESSION) × (Judgeable book.now r self.old scope) }
+        ensures { Judges book.now (checked book.now r) scope self.old result self.new }
     {
         let m = book.mark_at(r);
         if m == EV {
@@ -120,8 +119,8 @@ impl Judge<'_> {
     // The parts of an expression, by its mark.
     #[cycle(checking)]
     fn parts(&mut self, book: &Book, r: u16, m: u8, scope: Scope) -> Result<(), Refusal>
-        requires { (Marked book.now.bytes book.now.index r m) × ((Scoped book.now.bytes book.now.index self.old scope.live scope.base) × ((Enough book.now.bytes book.now.index r scope.live) × ((m ≡ EV → ⊥)))) }
-        ensures { Stays book.now.bytes book.now.index (parts_of book.now.bytes book.now.index r m (scope_of book.now.bytes book.now.index self.old.bindings scope.live scope.base)) scope.live self.old result self.new }
+        requires { (MarkedIn book.now r m) × ((m ≡ EV → ⊥) × (Judgeable book.now r self.old scope)) }
+        ensures { Judges book.now (parts_of book.now.bytes book.now.index r m) scope self.old result self.new }
     {
         match m {
             EB => self.block(book, r, scope),
@@ -141,8 +140,8 @@ impl Judge<'_> {
     // The elements of a record's row.
     #[cycle(checking)]
     fn row(&mut self, book: &Book, r: u16, m: u8, scope: Scope) -> Result<(), Refusal>
-        requires { (Marked book.now.bytes book.now.index r m) × ((Scoped book.now.bytes book.now.index self.old scope.live scope.base) × (Enough book.now.bytes book.now.index r scope.live)) }
-        ensures { Stays book.now.bytes book.now.index (row_of book.now.bytes book.now.index r m (scope_of book.now.bytes book.now.index self.old.bindings scope.live scope.base)) scope.live self.old result self.new }
+        requires { (MarkedIn book.now r m) × (Judgeable book.now r self.old scope) }
+        ensures { Judges book.now (row_of book.now.bytes book.now.index r m) scope self.old result self.new }
     {
         let span = span_of(book, r, m);
         for k in 0..span.count {
@@ -162,8 +161,8 @@ impl Judge<'_> {
         n: usize,
         scope: Scope,
     ) -> Result<(), Refusal>
-        requires { (ArmsAt book.now.bytes book.now.index r from n) × ((Scoped book.now.bytes book.now.index self.old scope.live scope.base) × (Enough book.now.bytes book.now.index r scope.live)) }
-        ensures { Stays book.now.bytes book.now.index (match_of book.now.bytes book.now.index r from n (scope_of book.now.bytes book.now.index self.old.bindings scope.live scope.base)) scope.live self.old result self.new }
+        requires { (ArmsAt book.now.bytes book.now.index r from n) × (Judgeable book.now r self.old scope) }
+        ensures { Judges book.now (match_of book.now.bytes book.now.index r from n) scope self.old result self.new }
     {
         let e = book.field_at(r, 1);
         let t = type_of(book, e);
@@ -183,8 +182,8 @@ impl Judge<'_> {
         t: u16,
         scope: Scope,
     ) -> Result<(), Refusal>
-        requires { (ArmsAt book.now.bytes book.now.index r from n) × ((Places book.now.bytes book.now.index t n) × ((Scoped book.now.bytes book.now.index self.old scope.live scope.base) × (Enough book.now.bytes book.now.index r scope.live))) }
-        ensures { Stays book.now.bytes book.now.index (arms_from book.now.bytes book.now.index r from n (type_of book.now.bytes book.now.index t) (scope_of book.now.bytes book.now.index self.old.bindings scope.live scope.base) 0 n) scope.live self.old result self.new }
+        requires { (ArmsAt book.now.bytes book.now.index r from n) × ((Places book.now.bytes book.now.index t n) × (Judgeable book.now r self.old scope)) }
+        ensures { Judges book.now (all_arms book.now r from n t) scope self.old result self.new }
     {
         for k in 0..n {
             // The type has a place for each arm.
@@ -197,8 +196,8 @@ impl Judge<'_> {
     // The arm whose pattern is field j, of the type s: its expression, where its pattern is bound.
     #[cycle(checking)]
     fn arm(&mut self, book: &Book, r: u16, j: usize, s: u16, scope: Scope) -> Result<(), Refusal>
-        requires { (ArmAt book.now.bytes book.now.index r j) × ((Stands book.now.bytes book.now.index s TYPE) × ((Scoped book.now.bytes book.now.index self.old scope.live scope.base) × (Enough book.now.bytes book.now.index r scope.live))) }
-        ensures { Stays book.now.bytes book.now.index (arm_of book.now.bytes book.now.index r j (type_of book.now.bytes book.now.index s) (scope_of book.now.bytes book.now.index self.old.bindings scope.live scope.base)) scope.live self.old result self.new }
+        requires { (ArmAt book.now.bytes book.now.index r j) × ((StandsIn book.now s TYPE) × (Judgeable book.now r self.old scope)) }
+        ensures { Judges book.now (arm_of book.now.bytes book.now.index r j (type_of book.now.bytes book.now.index s)) scope self.old result self.new }
     {
         let p = book.field_at(r, j);
         let e = book.field_at(r, j + 1);
@@ -213,8 +212,8 @@ impl Judge<'_> {
     // A block: its statements in order, and its end.
     #[cycle(checking)]
     fn block(&mut self, book: &Book, r: u16, scope: Scope) -> Result<(), Refusal>
-        requires { (Marked book.now.bytes book.now.index r EB) × ((Scoped book.now.bytes book.now.index self.old scope.live scope.base) × (Enough book.now.bytes book.now.index r scope.live)) }
-        ensures { Stays book.now.bytes book.now.index (block_of book.now.bytes book.now.index r (scope_of book.now.bytes book.now.index self.old.bindings scope.live scope.base)) scope.live self.old result self.new }
+        requires { (MarkedIn book.now r EB) × (Judgeable book.now r self.old scope) }
+        ensures { Judges book.now (block_of book.now.bytes book.now.index r) scope self.old result self.new }
     {
         let n = book.field_at(r, 1) as usize;
         let mut live = scope.live;
@@ -223,20 +222,17 @@ impl Judge<'_> {
             self.stmt(book, s, Scope { live, ..scope })?;
             live = entered(book, s, live);
         }
-        let end = book.field_at(r, 2 + n);
-        // The book has 65535 for no end.
-        if end == 65535 {
-            Ok(())
-        } else {
-            self.expression(book, end, Scope { live, ..scope })
+        match end_of(book, r) {
+            Some(end) => self.expression(book, end, Scope { live, ..scope }),
+            None => Ok(()),
         }
     }
 
     // A statement: its expression, and then its binding, or that it is of type unit.
     #[cycle(checking)]
     fn stmt(&mut self, book: &Book, s: u16, scope: Scope) -> Result<(), Refusal>
-        requires { (Stands book.now.bytes book.now.index s STATEMENT) × ((Scoped book.now.bytes book.now.index self.old scope.live scope.base) × (Enough book.now.bytes book.now.index s scope.live)) }
-        ensures { Stated book.now.bytes book.now.index s scope.live scope.base self.old result self.new }
+        requires { (StandsIn book.now s STATEMENT) × (Judgeable book.now s self.old scope) }
+        ensures { StatedIn book.now s scope self.old result self.new }
     {
         if book.mark_at(s) != SA {
             return self.does(book, s, scope);
@@ -251,8 +247,8 @@ impl Judge<'_> {
     // A statement that is an expression alone.
     #[cycle(checking)]
     fn does(&mut self, book: &Book, s: u16, scope: Scope) -> Result<(), Refusal>
-        requires { (Stands book.now.bytes book.now.index s STATEMENT) × (((mark book.now.bytes book.now.index s ≡ SA → ⊥)) × ((Scoped book.now.bytes book.now.index self.old scope.live scope.base) × (Enough book.now.bytes book.now.index s scope.live))) }
-        ensures { Stays book.now.bytes book.now.index (statement_of book.now.bytes book.now.index s (scope_of book.now.bytes book.now.index self.old.bindings scope.live scope.base)) scope.live self.old result self.new }
+        requires { (StandsIn book.now s STATEMENT) × ((mark book.now.bytes book.now.index s ≡ SA → ⊥) × (Judgeable book.now s self.old scope)) }
+        ensures { Judges book.now (statement_of book.now.bytes book.now.index s) scope self.old result self.new }
     {
         let e = book.field_at(s, 0);
         self.expression(book, e, scope)?;
@@ -262,7 +258,7 @@ impl Judge<'_> {
 
     // A function: its parameter names, its body in a scope of its parameters only, and what it gives.
     pub fn function(&mut self, book: &Book, f: u16) -> Result<(), Refusal>
-        requires stands { Stands book.now.bytes book.now.index f FUNCTION }
+        requires stands { StandsIn book.now f FUNCTION }
         requires rows { Rows book.now.bytes book.now.index self.old }
         ensures { Stays book.now.bytes book.now.index (check_fun (fun_of book.now.bytes book.now.index f)) 0 self.old result self.new }
     {

@@ -1,15 +1,11 @@
 // CHECK: each declared type against the one its parts give.
 #![tactic(auto)]
 
-ghost use Rattle.std.specs.Prelude.{◌*◌, ◌^◌, ◌<◌, ◌≡◌, ◌-◌};
-ghost use Rattle.std.specs.Result.{result_and};
-ghost use Rattle.book.specs.Tree.{expr_of};
+ghost use Rattle.std.specs.Prelude.{◌*◌, ◌^◌, ◌<◌, ◌≡◌};
 ghost use Rattle.book.specs.Valid.{Valid, Tiles};
-ghost use Rattle.binders.specs.Binders.{root_scope};
-ghost use Rattle.binders.specs.Memos.{Known, Doubled};
-ghost use Rattle.typing.specs.Check.{check};
+ghost use Rattle.binders.specs.Memos.{Doubled};
 ghost use Rattle.typing.specs.Cycle.{Among, Rows, Stays};
-ghost use Rattle.typing.specs.Whole.{in_order, value_at, function_at, checking, check_of};
+ghost use Rattle.typing.specs.Whole.{in_order, value_at, function_at, checking, after_values, check_of};
 
 use crate::cycle::{Judge, Scope, agree};
 use binders::{Binding, doubles};
@@ -54,7 +50,7 @@ fn sized<const N: usize>(book: &Book, n: u16, doubled: &[bool]) -> Result<(), Re
     requires valid { Valid book.now.bytes book.now.index n }
     requires tiles { Tiles book.now.bytes book.now.index n }
     requires doubled { Doubled book.now.bytes book.now.index n doubled.now }
-    ensures { result ≡ result_and (in_order (function_at book.now.bytes book.now.index) 0 n) (check (expr_of book.now.bytes book.now.index (n - 1)) root_scope) }
+    ensures { result ≡ after_values book.now n }
 {
     let mut memo = [0u32; N];
     let mut judge = Judge {
@@ -70,7 +66,7 @@ fn sized<const N: usize>(book: &Book, n: u16, doubled: &[bool]) -> Result<(), Re
 fn expressions(book: &Book, n: u16, judge: &mut Judge<'_>) -> Result<(), Refusal>
     requires valid { Valid book.now.bytes book.now.index n }
     requires rows { Rows book.now.bytes book.now.index judge.old }
-    ensures { result ≡ result_and (in_order (function_at book.now.bytes book.now.index) 0 n) (check (expr_of book.now.bytes book.now.index (n - 1)) root_scope) }
+    ensures { result ≡ after_values book.now n }
 {
     functions(book, n, judge)?;
     let root = Scope {

@@ -1,3 +1,4 @@
+pub mod Books
 pub mod Due
 pub mod Replayed
 pub mod Tables

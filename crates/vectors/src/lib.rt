@@ -1,12 +1,13 @@
 // What the programs share that replay vectors: numbers in bytes, tables held against what is due, and the verdict.
 #![tactic(auto)]
 
-ghost use Rattle.std.specs.Prelude.{◌≡◌, ◌≤◌, Bool, true, ◌+◌, ◌*◌, List, ◌++◌, length, codes, OnOk};
+ghost use Rattle.std.specs.Prelude.{ℕ, ◌≡◌, ◌≤◌, Bool, true, ◌+◌, ◌*◌, List, ◌++◌, length, codes, Option, IfOk, OnOk};
 ghost use Rattle.std.specs.List.{FoldsTo};
 ghost use Rattle.std.specs.Io.KnownBytes.{Appends};
 ghost use Rattle.console.specs.Lines.{count_line};
+ghost use Rattle.vectors.specs.Books.{BookTurn, IsJudged, IsVerdict, due_in, size_in};
 ghost use Rattle.vectors.specs.Due.{is_due};
-ghost use Rattle.vectors.specs.Replayed.{Gives, Replayed};
+ghost use Rattle.vectors.specs.Replayed.{Replayed, Stops, Turn};
 ghost use Rattle.vectors.specs.Tables.{Alike, AllFrom};
 
 use book::fault::{Numbers, Refusal, fault_number};
@@ -34,15 +35,7 @@ pub fn begins_with(table: &[u8], due: &[u8]) -> bool
     ensures fits { result ≡ true → length due.now ≤ length table.now }
     ensures seen { length due.now ≤ length table.now → Alike table.now due.now (length due.now) → result ≡ true }
 {
-    if table.len() < due.len() {
-        return false;
-    }
-    for (k, byte) in due.iter().enumerate() {
-        if table[k] != *byte {
-            return false;
-        }
-    }
-    true
+    table.starts_with(due)
 }
 
 // Whether a table is zero from a place on.
@@ -50,21 +43,14 @@ pub fn is_zero_from(table: &[u8], from: usize) -> bool
     ensures zero { result ≡ true → AllFrom 0 table.now from (length table.now) }
     ensures seen { AllFrom 0 table.now from (length table.now) → result ≡ true }
 {
-    for k in from..table.len() {
-        if table[k] != 0 {
-            return false;
-        }
-    }
-    true
+    table.iter().skip(from).all(|byte| *byte == 0)
 }
 
 // Bytes that no call leaves, so that each must be written.
 pub fn fill(table: &mut [u8])
     ensures { AllFrom 165 table.new 0 (length table.old) }
 {
-    for byte in table.iter_mut() {
-        *byte = 165;
-    }
+    table.fill(165);
 }
 
 // A vector whose answer was wrong.
@@ -95,8 +81,8 @@ pub fn is_due(answer: Result<u16, Refusal>, due: Numbers) -> bool
 // At most so many vectors of a stream are replayed.
 const MOST: u64 = 1_000_000;
 
-// Replays a stream of vectors, each behind a head of N bytes. Prints which answers were wrong, how many vectors there were, and how many
-// were wrong. Each verdict is that of a call, in the order of the calls.
+// Replays a stream of vectors, each behind a head of N bytes, up to the stream's end. Prints which answers were wrong, how many vectors
+// there were, and how many were wrong. Each verdict is that of a call, in the order of the calls.
 pub fn replay<
     const N: usize,
     H: From<[u8; N]> + Drop,
@@ -107,7 +93,9 @@ pub fn replay<
     requires head_fits { N ≤ 256 }
     requires callable { F.IsAlwaysCallable is_next_right }
     ensures { OnOk result ((vs : List Bool) × Replayed vs (W.contents out.old) (W.contents out.new)
-        × ((last : F) × FoldsTo (Gives F.step) is_next_right vs last)) }
+        × ((last : F) × (rest : Option (List ℕ))
+        × FoldsTo (Turn N (λ x. R.remaining x.now) H.from_gives F.step) (is_next_right, R.remaining input.old) vs (last, rest)
+        × Stops N vs rest (R.remaining input.new))) }
 {
     let mut head = [0u8; N];
     let mut all = 0;
@@ -136,6 +124,9 @@ struct Head {
 }
 
 impl From<[u8; 8]> for Head {
+    // what is due and the length, as the bytes say
+    ghost from_gives = { λ bytes h. (h.due ≡ due_in bytes) × (h.size ≡ size_in bytes) };
+
     fn from(head: [u8; 8]) -> Head {
         Head {
             due: Numbers {
@@ -148,6 +139,20 @@ impl From<[u8; 8]> for Head {
     }
 }
 
+// What comes next, into all of a part, and whether what is made of it is right.
+fn is_read_right<R: Read, F: Fn(&[u8], Numbers) -> bool>(
+    input: &mut R,
+    due: Numbers,
+    book: &mut [u8],
+    is_right: &F,
+) -> io::Result<bool>
+    requires { (f : _) (x1 : _) (x2 : _) → F.pre f x1 x2 }
+    ensures { IfOk result (λ v. IsJudged (F.post is_right.now) due (length book.old) (R.remaining input.old) v (R.remaining input.new)) }
+{
+    let n = read_full(input, book)?;
+    Ok(is_right(&book[..n], due))
+}
+
 // The next book, and whether what is made of it is right. One that has no room is wrong.
 fn is_next_book_right<R: Read, F: Fn(&[u8], Numbers) -> bool>(
     input: &mut R,
@@ -155,24 +160,27 @@ fn is_next_book_right<R: Read, F: Fn(&[u8], Numbers) -> bool>(
     is_right: &F,
 ) -> io::Result<bool>
     requires { (f : _) (x1 : _) (x2 : _) → F.pre f x1 x2 }
+    ensures { IfOk result (λ v. IsVerdict (F.post is_right.now) head.due head.size (R.remaining input.old) v (R.remaining input.new)) }
 {
     let mut buffer = [0u8; ROOM];
     if ROOM < head.size {
         return Ok(false);
     }
-    let n = read_full(input, &mut buffer[..head.size])?;
-    Ok(is_right(&buffer[..n], head.due))
+    is_read_right(input, head.due, &mut buffer[..head.size], is_right)
 }
 
 // Replays a stream of books. Each stands behind the number (one byte), the place and the count that are due (two bytes each, low
-// first), and its length (three bytes, low first).
+// first), and its length (three bytes, low first). Each verdict is what `is_right` says of the book and of what is due; a book that has
+// no room is wrong.
 pub fn replay_books<R: Read, W: Write, F: Fn(&[u8], Numbers) -> bool>(
     input: &mut R,
     out: &mut W,
     is_right: F,
 ) -> io::Result<()>
     requires { (f : _) (x1 : _) (x2 : _) → F.pre f x1 x2 }
-    ensures { OnOk result ((vs : List Bool) × Replayed vs (W.contents out.old) (W.contents out.new)) }
+    ensures { OnOk result ((vs : List Bool) × Replayed vs (W.contents out.old) (W.contents out.new)
+        × ((rest : Option (List ℕ)) × FoldsTo (BookTurn (F.post is_right)) (R.remaining input.old) vs rest
+        × Stops 8 vs rest (R.remaining input.new))) }
 {
     replay(
         input,

@@ -12,9 +12,6 @@ pub repeats-requires : goal.repeats-requires
 repeats-requires c =
     record { stands = row_stands c.requires.stands c.mark_at-m.ensures c.if-m-eq-PT.true; mark_is = sym c.mark_at-m.ensures ∙ c.if-m-eq-PT.true; met = c.requires.met; nameless = c.requires.nameless; doubled = c.requires.doubled }
 
-pub returns-then-m-eq-PT : goal.returns-then-m-eq-PT
-returns-then-m-eq-PT c = c.repeats.ensures
-
 pub params_repeat-requires : goal.params_repeat-requires
 params_repeat-requires c = record { stands = function_stands c.requires.stands c.mark_at-m.ensures c.if-m-eq-FN.true; met = c.requires.met }
 

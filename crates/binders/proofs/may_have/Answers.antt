@@ -5,9 +5,6 @@ use Rattle.pattern.proofs.Records.{name_lies}
 use Rattle.binders.proofs.Sights.{other_not, ignored_not}
 use Rattle.binders.proofs.may_have.Goals as goal
 
-pub returns-then-missing-p : goal.returns-then-missing-p
-returns-then-missing-p c = λ e. c.requires.memo.sound _ c.if-missing-p.true
-
 pub mark_at-mark-requires : goal.mark_at-mark-requires
 mark_at-mark-requires c = stands_begins c.requires.stands
 

@@ -2,12 +2,8 @@
 -- Assumes nothing.
 use mathlib.Core.Path.{refl, sym, ◌∙◌}
 use native.Mathlib.Omega.{arith}
-use Rattle.pattern.proofs.Memos.{memo_none}
-use Rattle.binders.proofs.Scopes.{older_none, older_all, older_next, older_found}
+use Rattle.binders.proofs.Scopes.{older_all, older_next, older_found}
 use Rattle.binders.proofs.newest_type.Goals as goal
-
-pub loop-at-init : goal.loop-at-init
-loop-at-init c = (memo_none _ _ _ _ (rw c.requires.missing_length at c.fill.ensures.after (λ y e. e)), older_none _ _ _ _ _ _)
 
 pub returns-then-is_some : goal.returns-then-is_some
 returns-then-is_some c =

@@ -3,14 +3,11 @@
 use mathlib.Core.Path.{refl, sym}
 use borrow.Author.Rules.{rules}
 use Rattle.binders.proofs.Tallies.{met_fresh, notes_twice, notes_new_all, notes_empty}
-use Rattle.binders.proofs.Doubling.{repeats_row, repeats_none, part_fits, repeats_part}
+use Rattle.binders.proofs.Doubling.{repeats_row, repeats_none, repeats_part}
 use Rattle.binders.proofs.repeats.Goals as goal
 
 pub returns-in_default : goal.returns-in_default
 returns-in_default c = repeats_none c.requires.stands c.requires.met c.requires.nameless c.in_default.ensures
-
-pub bounds-doubled-s : goal.bounds-doubled-s
-bounds-doubled-s c = part_fits c.in-Some.ensures c.requires.doubled
 
 pub returns-then-s-p : goal.returns-then-s-p
 returns-then-s-p c =

@@ -2,16 +2,15 @@
 -- Assumes nothing.
 use Rattle.std.proofs.lemmas.Result.{err_from_is_err_and}
 use mathlib.Core.Path.{sym, ◌∙◌}
-use lib.ListN.{length}
-use Rattle.compile.proofs.Wholes.{some_records, root_stands_in, clear_length, clear_again, whole_read, whole_refused}
+use Rattle.compile.proofs.Wholes.{some_records, root_stands_in, clear_length, whole_read, whole_refused}
 use Rattle.compile.proofs.lower.Goals as goal
 
 pub overflow_sub-records : goal.overflow_sub-records
 overflow_sub-records c = some_records _ _ (sym c.index_book-indexed.ensures.0 ∙ c.in_ok-records.was)
 
-pub lower_root-requires : goal.lower_root-requires
-lower_root-requires c =
-    rw c.new-book.ensures (record { stands = root_stands_in _ _ (sym c.index_book-indexed.ensures.0 ∙ c.in_ok-records.was) c.index_book-indexed.ensures.1; nodes_is = clear_again (length c.args.nodes.now) c.clear.ensures })
+pub lower_root-requires-clause-stands : goal.lower_root-requires-clause-stands
+lower_root-requires-clause-stands c =
+    rw c.new-book.ensures (root_stands_in _ _ (sym c.index_book-indexed.ensures.0 ∙ c.in_ok-records.was) c.index_book-indexed.ensures.1)
 
 pub returns : goal.returns
 returns c =

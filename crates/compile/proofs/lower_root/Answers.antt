@@ -1,11 +1,8 @@
 -- `lower_root` meets its contract: the root's nodes on a clear table, or a table that is cleared again.
 -- Assumes nothing.
-use Rattle.compile.proofs.Wholes.{root_fits, root_made, root_refused}
+use Rattle.compile.proofs.Wholes.{root_made, root_refused}
 use borrow.Author.Rules.{rules}
 use Rattle.compile.proofs.lower_root.Goals as goal
-
-pub expression-requires : goal.expression-requires
-expression-requires c = (c.requires.stands, root_fits c.from_root-scope.ensures)
 
 pub returns-in-Ok : goal.returns-in-Ok
 returns-in-Ok c =

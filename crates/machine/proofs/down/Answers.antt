@@ -4,4 +4,4 @@ use Rattle.machine.proofs.Turns.{downed}
 use Rattle.machine.proofs.down.Goals as goal
 
 pub returns : goal.returns
-returns c = downed _ _ _ _ _ _ c.requires.deep c.requires.depth_in_range
+returns c = downed _ _ _ _ _ _ c.told-frames c.requires

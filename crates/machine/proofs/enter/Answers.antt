@@ -4,22 +4,14 @@ use mathlib.Core.Path.{sym, ap, ◌∙◌}
 use Rattle.nodes.specs.Given.{cell_of}
 use mathlib.Core.Logic.{inl, inr}
 use Rattle.machine.proofs.Turns.{turned_answers, turned_handed, turned_down, turned_steep}
-use Rattle.machine.proofs.Ways.{range_part, range_case, range_none, kind_iden, kind_unit, kind_injl, kind_injr, kind_comp, kind_pair, kind_fail, kind_witness, kind_scribe, kind_jet, kind_none}
+use Rattle.machine.proofs.Ways.{range_none, kind_iden, kind_unit, kind_injl, kind_injr, kind_comp, kind_pair, kind_fail, kind_witness, kind_scribe, kind_jet, kind_none}
 use native.Mathlib.Omega.{arith}
 use borrow.Author.Rules.{rules}
 use Rattle.machine.proofs.enter.Goals as goal
-use Rattle.machine.proofs.enter.Goals.{in-8-1, in_default+else-kind-lt1+else-kind-lt7+then-kind-lt12, in_default-via-then-kind-lt1, in_default-via-else-kind-lt1+else-kind-lt7+else-kind-lt12}
+use Rattle.machine.proofs.enter.Goals.{in_default-via-then-kind-lt1, in_default-via-else-kind-lt1+else-kind-lt7+else-kind-lt12}
 
 pub returns-then-s-ge-DEEPEST : goal.returns-then-s-ge-DEEPEST
 returns-then-s-ge-DEEPEST c = turned_steep c.requires.step_is.0 (omega (arith, c.if-s-ge-DEEPEST.true, c.requires.step_is.1)) c.halt.ensures
-
-pub enter_part-requires : goal.enter_part-requires
-enter_part-requires c =
-    record { step_is = (c.requires.step_is.0, c.if-s-ge-DEEPEST.false); deep = c.requires.deep; kind_at_is = (sym c.kind_at-kind.ensures, range_part _ c.in-5-to-6.in_default-own.rest c.in-5-to-6.if-kind-lt1-own.false c.in-5-to-6.if-kind-lt7-own.true) }
-
-pub enter_case-requires : goal.enter_case-requires
-enter_case-requires c =
-    record { step_is = (c.requires.step_is.0, c.if-s-ge-DEEPEST.false); deep = c.requires.deep; kind_at_is = (sym c.kind_at-kind.ensures, elim c.in-8-to-11-1.branch [ in-8-1 w ↦ inl (search rules) | in_default+else-kind-lt1+else-kind-lt7+then-kind-lt12 w ↦ range_case _ w.in_default-1.rest (search rules) (search rules) ]) }
 
 pub returns-in-1 : goal.returns-in-1
 returns-in-1 c =

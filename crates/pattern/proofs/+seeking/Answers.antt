@@ -1,40 +1,19 @@
 -- `get_from` and `get_row` meet their contracts: by the pattern's mark; each element before k has not the name.
 -- Assumes nothing.
-use mathlib.Core.Path.{refl}
-use native.Mathlib.Omega.{arith}
+use Rattle.std.proofs.Common.{refl, arith, rules}
 use Rattle.book.proofs.Standing.{stands_begins}
 use Rattle.named.proofs.Storing.{handed}
 use Rattle.pattern.proofs.Selectors.{seeks_absent, seeks_found, seeks_full, sought_missing, sought_found, sought_full}
-use Rattle.pattern.proofs.Memos.{memo_more, searched_none, searched_on, known_missing}
+use Rattle.pattern.proofs.Memos.{memo_more, searched_on}
 use Rattle.pattern.proofs.Passes.{passes_none, passes_all, passes_next, passes_found, passes_full}
-use Rattle.pattern.proofs.Records.{finds_row, name_lies, name_found, name_missing, all_missing, row_count, row_lies, row_part, row_most}
-use borrow.Author.Rules.{rules}
+use Rattle.pattern.proofs.Records.{finds_row, name_lies, row_count, row_lies, row_part, row_most}
 use Rattle.pattern.proofs.+seeking.Goals as goal
-
-pub get_from-returns-then-missing-p : goal.get_from-returns-then-missing-p
-get_from-returns-then-missing-p t c = search known_missing
 
 pub get_from-mark_at-requires : goal.get_from-mark_at-requires
 get_from-mark_at-requires t c = search stands_begins
 
 pub get_from-field_at-requires : goal.get_from-field_at-requires
 get_from-field_at-requires t c = name_lies (search rules) _ c.mark_at.ensures c.in-8.is
-
-pub get_from-returns-in_err-node-in-8 : goal.get_from-returns-in_err-node-in-8
-get_from-returns-in_err-node-in-8 t c =
-    rw (handed c.from_residual.ensures.1)
-    (searched_on (search rules) (seeks_full (name_found (search rules) _ c.mark_at.ensures _ c.in-8.is c.field_at.ensures c.if-field_at-name.true c.in_err-node-in-8.ensures)))
-
-pub get_from-returns-in_ok-node-in-8 : goal.get_from-returns-in_ok-node-in-8
-get_from-returns-in_ok-node-in-8 t c =
-    searched_on (search rules) (seeks_found (name_found (search rules) _ c.mark_at.ensures _ c.in-8.is c.field_at.ensures c.if-field_at-name.true c.in_ok-node-in-8.ensures))
-
-pub get_from-returns-in_default : goal.get_from-returns-in_default
-get_from-returns-in_default t c =
-    searched_none (search rules) (name_missing (search rules) _ c.mark_at.ensures _ c.in-8.is c.field_at.ensures c.if-field_at-name.false)
-
-pub get_from-returns-in_default-2 : goal.get_from-returns-in_default-2
-get_from-returns-in_default-2 t c = searched_none (search rules) (all_missing (search rules) _ c.mark_at.ensures _ (λ e. omega arith) (λ e. omega arith))
 
 pub get_row-field_at-n-requires : goal.get_row-field_at-n-requires
 get_row-field_at-n-requires t c = search row_count

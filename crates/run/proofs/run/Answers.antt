@@ -3,12 +3,12 @@
 use Rattle.std.proofs.lemmas.Result.{err_from_is_err_and}
 use mathlib.Core.Path.{sym, ◌∙◌}
 use lib.ListN.{length}
-use Rattle.run.proofs.Ends.{book_valid, cleared, whole_read, whole_refused}
+use Rattle.run.proofs.Ends.{book_valid, whole_read, whole_refused}
 use Rattle.run.proofs.run.Goals as goal
 
-pub run_read-requires : goal.run_read-requires
-run_read-requires c =
-    rw c.new-book.ensures (record { valid = book_valid (sym c.index_book-indexed.ensures.0 ∙ c.in_ok-records.was) c.index_book-indexed.ensures.1; cells_is = cleared (length c.args.cells.now) c.clear.ensures })
+pub run_read-requires-clause-valid : goal.run_read-requires-clause-valid
+run_read-requires-clause-valid c =
+    rw c.new-book.ensures (book_valid (sym c.index_book-indexed.ensures.0 ∙ c.in_ok-records.was) c.index_book-indexed.ensures.1)
 
 pub returns : goal.returns
 returns c =

@@ -9,9 +9,8 @@ use Rattle.typing.proofs.function_at.Goals as goal
 pub mark_at-requires : goal.mark_at-requires
 mark_at-requires c = among_begins c.requires.among
 
-pub function-requires : goal.function-requires
-function-requires c =
-    record { stands = stands_as c.requires.among c.mark_at.ensures c.kind_of.ensures FUNCTION c.if-kind_of-eq-FUNCTION.true; rows = c.requires.rows }
+pub function-requires-clause-stands : goal.function-requires-clause-stands
+function-requires-clause-stands c = stands_as c.requires.among c.mark_at.ensures c.kind_of.ensures FUNCTION c.if-kind_of-eq-FUNCTION.true
 
 pub returns-then-kind_of-eq-FUNCTION : goal.returns-then-kind_of-eq-FUNCTION
 returns-then-kind_of-eq-FUNCTION c =

@@ -2,17 +2,9 @@
 -- Assumes nothing.
 use mathlib.Core.Path.{refl, sym}
 use native.Mathlib.Omega.{arith}
-use Rattle.typing.proofs.Judging.{handed, at_once, stays_as, stays_next, stays_halt}
-use Rattle.typing.proofs.Scopes.{stays_rows}
-use Rattle.typing.proofs.Orders.{among_of, order_start, order_next, order_none}
+use Rattle.typing.proofs.Judging.{handed, stays_as, stays_next, stays_halt}
+use Rattle.typing.proofs.Orders.{order_next, order_none}
 use Rattle.typing.proofs.functions.Goals as goal
-
-pub loop-r-init : goal.loop-r-init
-loop-r-init c = at_once c.requires.rows (sym (order_start _ _))
-
-pub function_at-requires : goal.function_at-requires
-function_at-requires c =
-    record { among = among_of c.requires.valid c.loop-r-test.true; rows = stays_rows c.loop-r.invariant c.requires.rows }
 
 pub returns-in_err-function_at : goal.returns-in_err-function_at
 returns-in_err-function_at c =

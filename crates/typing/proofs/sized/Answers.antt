@@ -5,6 +5,5 @@ use Rattle.binders.proofs.Fitting.{known_none}
 use Rattle.typing.proofs.Orders.{rows_first}
 use Rattle.typing.proofs.sized.Goals as goal
 
-pub expressions-requires : goal.expressions-requires
-expressions-requires g c =
-    record { valid = c.requires.valid; rows = rows_first c.requires.valid c.requires.tiles c.requires.doubled (known_none _ _ _ _ refl) refl refl }
+pub expressions-requires-clause-rows : goal.expressions-requires-clause-rows
+expressions-requires-clause-rows g c = rows_first c.requires.valid c.requires.tiles c.requires.doubled (known_none _ _ _ _ refl) refl refl

@@ -3,14 +3,8 @@
 use mathlib.Core.Path.{refl, sym, ◌∙◌}
 use native.Mathlib.Omega.{arith}
 use Rattle.typing.proofs.Judging.{handed}
-use Rattle.typing.proofs.Orders.{among_of, order_start, order_none, passing_next, passing_halt}
+use Rattle.typing.proofs.Orders.{order_none, passing_next, passing_halt}
 use Rattle.typing.proofs.values.Goals as goal
-
-pub loop-r-init : goal.loop-r-init
-loop-r-init c = order_start _ _
-
-pub value_at-requires : goal.value_at-requires
-value_at-requires c = among_of c.requires c.loop-r-test.true
 
 pub returns-in_err-value_at : goal.returns-in_err-value_at
 returns-in_err-value_at c =

@@ -1,29 +1,14 @@
 -- `read::frame_from` meets its contract: a cut head is a cut record.
 -- Assumes nothing.
 use Prim.Native.Nat.{◌+◌, ◌*◌}
-use Rattle.book.proofs.Frames.{small_is, layout_is, total_fits, cut_head, cut_frame, whole_frame, count_is, end_is}
+use Rattle.book.proofs.Frames.{layout_is, cut_head, cut_frame, whole_frame, count_is, end_is}
 use mathlib.Core.Path.{◌≡◌}
 use native.Mathlib.Omega.{arith}
 use Rattle.book.specs.Read.{end_at}
 use Rattle.book.proofs.read.frame_from.Goals as goal
 
-pub overflow_mul-layout : goal.overflow_mul-layout
-overflow_mul-layout c = omega (arith, (small_is _ _ c.layout_of-layout.ensures).heads)
-
-pub overflow_add-at-2 : goal.overflow_add-at-2
-overflow_add-at-2 c = omega (arith, (small_is _ _ c.layout_of-layout.ensures).heads)
-
 pub returns-then-book-at : goal.returns-then-book-at
 returns-then-book-at c = cut_head _ _ _ (layout_is _ _ _ _ c.layout_of-layout.ensures c.requires.mark_is) c.if-book-at.true
-
-pub total_of-requires-clause-small : goal.total_of-requires-clause-small
-total_of-requires-clause-small c = small_is _ _ c.layout_of-layout.ensures
-
-pub overflow_mul-end : goal.overflow_mul-end
-overflow_mul-end c = omega (arith, total_fits _ _ (small_is _ _ c.layout_of-layout.ensures) c.count_in-count.ensures.1, c.total_of.ensures)
-
-pub overflow_add-end-2 : goal.overflow_add-end-2
-overflow_add-end-2 c = omega (arith, total_fits _ _ (small_is _ _ c.layout_of-layout.ensures) c.count_in-count.ensures.1, c.total_of.ensures)
 
 pub returns-then-book-end : goal.returns-then-book-end
 returns-then-book-end c =

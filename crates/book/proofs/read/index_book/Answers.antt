@@ -19,7 +19,7 @@ returns-then-not-contains c =
     rw c.refusal.ensures (unsized_answers _ e)
 
 pub read_records-requires-clause-chained : goal.read_records-requires-clause-chained
-read_records-requires-clause-chained c = rw c.new-reader.ensures (chained_start _ _)
+read_records-requires-clause-chained c = rw c.new-reader.ensures (chained_start _)
 
 pub returns-in-Ok : goal.returns-in-Ok
 unfolding sized

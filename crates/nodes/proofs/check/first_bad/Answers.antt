@@ -1,30 +1,15 @@
 -- `nodes::first_bad` meets its contract: the nodes before n are well formed, and so are the operands before k.
 -- Assumes nothing.
 use borrow.Author.Rules.{rules}
-use borrow.Author.Count.{below_none, below_more}
-use native.Mathlib.Nat.{sub-zero}
 use Rattle.book.specs.Text.{text}
 use Rattle.nodes.proofs.Checks.{operand_by, formed_by, formed_not, scan_on, scan_stops, scan_ends}
 use Rattle.nodes.proofs.check.first_bad.Goals as goal
-
-pub scan-init : goal.scan-init
-scan-init c = (search rules, rw sub-zero)
-
-pub loop-k-init : goal.loop-k-init
-loop-k-init c = (search rules, below_none _)
-
-pub loop-k-preserved : goal.loop-k-preserved
-loop-k-preserved c = (
-  search rules,
-  below_more _ _ c.loop-k.invariant.1
-      (operand_by (text _ _ _) _ _ c.loop-k.k c.kind_at-kind.ensures c.role_at.ensures c.operand.ensures c.fits_role.ensures c.if-not-fits_role.false),
-)
 
 pub scan-preserved : goal.scan-preserved
 scan-preserved c = (
   search rules,
   scan_on (text _ _ _) _ _ _ c.scan.invariant.0 c.scan.invariant.1 c.if-n-count.false
-      (formed_by (text _ _ _) _ _ _ c.loop-k-test.false c.loop-k.invariant.1),
+      (formed_by (text _ _ _) _ _ _ c.loop-k-test.false c.loop-k.invariant),
 )
 
 pub returns-then-n-count : goal.returns-then-n-count

@@ -7,10 +7,7 @@ use Rattle.nodes.specs.Nodes.{operand_fits, first_bad}
 use Rattle.nodes.proofs.check.first_bad.Given as goal
 
 abbrev pub invariant-loop-k : goal.invariant-loop-k
-invariant-loop-k l = (l.k ≤ 2) × ((j : ℕ) → j < l.k → operand_fits l.book l.nodes l.n j ≡ true)
-
-abbrev pub decreases-loop-k : goal.decreases-loop-k
-decreases-loop-k l = 2 - l.k
+invariant-loop-k l = (j : ℕ) → j < l.k → operand_fits l.book l.nodes l.n j ≡ true
 
 abbrev pub invariant-scan : goal.invariant-scan
 invariant-scan l =

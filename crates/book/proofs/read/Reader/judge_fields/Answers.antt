@@ -1,7 +1,6 @@
 -- `read::Reader::judge_fields` meets its contract: what is left of the fields answers for them all.
 -- Assumes nothing.
-use Rattle.book.proofs.Frames.{small_is, layout_is, field_within, role_is, total_at_lem}
-use Rattle.book.proofs.Course.{ready_kept}
+use Rattle.book.proofs.Frames.{layout_is, field_within, role_is, total_at_lem}
 use Rattle.book.proofs.Ways.{field_refused, field_passed, fields_end, fields_all}
 use mathlib.Core.Path.{sym, ◌∙◌}
 use native.Mathlib.Omega.{arith}
@@ -9,22 +8,13 @@ use borrow.Author.Rules.{rules}
 use Rattle.std.proofs.lemmas.Result.{err_from_is_err_and}
 use Rattle.book.proofs.read.Reader.judge_fields.Goals as goal
 
-pub total_of-total-requires-clause-small : goal.total_of-total-requires-clause-small
-total_of-total-requires-clause-small c = small_is _ _ c.layout_of-layout.ensures
-
-pub role_of-role-requires-clause-small : goal.role_of-role-requires-clause-small
-role_of-role-requires-clause-small c = small_is _ _ c.layout_of-layout.ensures
-
 pub judge_field-requires-clause-at_fits : goal.judge_field-requires-clause-at_fits
 judge_field-requires-clause-at_fits c =
     let t = (total_at_lem _ _ _ _ _ (layout_is _ _ _ _ c.layout_of-layout.ensures c.requires.opens.mark) c.requires.opens.count c.total_of-total.ensures) in
-    omega (arith, field_within c.args.book.now c.args.at c.loop-k.k (rw t at c.loop-k-test.true), c.requires.opens.framed.ends)
+    omega (arith, field_within c.args.book.now c.args.frame.at c.loop-k.k (rw t at c.loop-k-test.true), c.requires.opens.framed.ends)
 
 pub judge_field-requires-clause-role_is : goal.judge_field-requires-clause-role_is
 judge_field-requires-clause-role_is c = role_is _ _ _ _ _ _ (layout_is _ _ _ _ c.layout_of-layout.ensures c.requires.opens.mark) c.requires.opens.count c.role_of-role.ensures
-
-pub judge_field-requires-clause-ready : goal.judge_field-requires-clause-ready
-judge_field-requires-clause-ready c = ready_kept c.loop-k.invariant.1 c.requires.ready
 
 pub returns-in_err-deep-clause-verdict : goal.returns-in_err-deep-clause-verdict
 returns-in_err-deep-clause-verdict c =

@@ -8,5 +8,5 @@ use Rattle.book.proofs.read.Reader.judge_fields.Given as goal
 
 abbrev pub invariant-loop-k : goal.invariant-loop-k
 invariant-loop-k l =
-    (fields l.book l.initial.self.index l.initial.self.depths l.r l.at l.k (l.total - l.k) l.self.named l.deep ≡ fields l.book l.initial.self.index l.initial.self.depths l.r l.at 0 (l.total - 0) l.initial.self.named l.initial.deep)
+    (fields l.book l.initial.self.index l.initial.self.depths l.r l.frame.at l.k (l.total - l.k) l.self.named l.deep ≡ fields l.book l.initial.self.index l.initial.self.depths l.r l.frame.at 0 (l.total - 0) l.initial.self.named l.initial.deep)
     × OthersKept l.initial.self l.self

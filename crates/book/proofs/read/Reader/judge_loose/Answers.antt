@@ -1,16 +1,10 @@
 -- `read::Reader::judge_loose` meets its contract: what is left of the records answers for them all.
 -- Assumes nothing.
 use Rattle.book.proofs.Endings.{loose_here, loose_on, loose_last, loose_none, loose_all}
-use Rattle.book.proofs.Frames.{mark_within}
-use lib.ListN.{get_or}
 use Prim.Native.Nat.{◌-◌}
 use mathlib.Core.Path.{◌≡◌, sym, ◌∙◌}
 use native.Mathlib.Omega.{arith}
 use Rattle.book.proofs.read.Reader.judge_loose.Goals as goal
-
-pub is_unnamed-requires : goal.is_unnamed-requires
-is_unnamed-requires c =
-    omega (arith, (c.requires.rows.inside c.loop-j.j (omega arith)).ends, mark_within c.args.book.now (get_or c.args.self.now.index c.loop-j.j 0))
 
 pub returns-then-is_unnamed : goal.returns-then-is_unnamed
 returns-then-is_unnamed c =
@@ -19,10 +13,6 @@ returns-then-is_unnamed c =
 pub loop-j-preserved : goal.loop-j-preserved
 loop-j-preserved c =
     λ p. loose_on _ _ _ _ (omega arith) (sym c.is_unnamed.ensures ∙ c.if-is_unnamed.false) ∙ c.loop-j.invariant p
-
-pub kind_at-requires : goal.kind_at-requires
-kind_at-requires c =
-    omega (arith, (c.requires.rows.inside (c.args.count - 1) (omega arith)).ends, mark_within c.args.book.now (get_or c.args.self.now.index (c.args.count - 1) 0))
 
 pub returns-then-kind_at-ne-EXPRESSION : goal.returns-then-kind_at-ne-EXPRESSION
 returns-then-kind_at-ne-EXPRESSION c =

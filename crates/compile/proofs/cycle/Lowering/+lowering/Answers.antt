@@ -4,24 +4,25 @@ use mathlib.Core.Path.{refl, sym, ◌∙◌}
 use native.Mathlib.Omega.{arith}
 use lib.ListN.{length-set}
 use Rattle.laws.specs.Table.{free}
-use Rattle.book.specs.Format.{PATTERN, EXPRESSION, EC, EW, EV, SA, SE, CK, FN}
+use Rattle.book.specs.Format.{PATTERN, EXPRESSION, EC, EW, SA, SE, CK, FN}
 use Rattle.book.proofs.Standing.{stands_begins, head_lies, function_mark}
 use lib.Seq.{length-take-le}
-use Rattle.named.proofs.Storing.{then, halt, handed}
+use Rattle.named.proofs.Storing.{then, halt, handed, all_then, all_halt}
 use Rattle.scope_bindings.specs.Scope.{of_function}
-use Rattle.scope_bindings.proofs.Scopes.{scope_count, root_stands}
+use Rattle.scope_bindings.proofs.Scopes.{scope_count, scope_root, root_stands}
 use Rattle.parts.proofs.Marks.{lies, most}
 use Rattle.parts.proofs.Spans.{stmt_lies, stmt_stands, stmt_below, does_mark}
-use Rattle.compile.specs.Cycle.{call_run}
-use Rattle.compile.proofs.Shapes.{other_marks, row_is, row_else, cast_is, constant_is, witness_is, variable_is, block_is}
-use Rattle.compile.proofs.Steps.{suffices_next, suffices_halt, suffices_done}
+use Rattle.compile.specs.Cycle.{begin_run, row_run}
+use Rattle.compile.proofs.Shapes.{other_marks, row_is, row_else, cast_is, constant_is, witness_is, block_is, match_is, body_is, end_is}
+use Rattle.compile.proofs.Steps.{at_full, suffices_next, suffices_halt, suffices_done}
 use Rattle.compile.proofs.Blocks.{begun_start, begun_next, begun_halt, begun_end, begun_end_halt}
-use Rattle.compile.proofs.Facts.{head_is, head_less, in_span, does_stands, does_below, value_stands, value_below, inner_stands, arm_done, arm_full, fn_lies, fn_stands, fn_less, fn_done, end_lies, end_is, end_less, begin_does, begin_assign, begin_halt, element_plain, element_arm, functional_lies, functional_stands, functional_below, body_plain, body_fold, body_halt, choose_then, choose_halt, complete_call, complete_wrap, marked_as, marked, end_unit, end_expr, row_then, row_halt, arms_is, enters_is}
+use Rattle.parts.proofs.Blocks.{end_stands, end_below}
+use Rattle.compile.proofs.Facts.{head_is, head_less, in_span, does_stands, does_below, value_stands, value_below, inner_stands, arm_done, fn_lies, fn_stands, fn_less, functional_lies, functional_stands, functional_below, marked_as, marked, enters_is}
 use borrow.Author.Rules.{rules}
 use Rattle.compile.proofs.cycle.Lowering.+lowering.Goals as goal
 
 pub arm-returns-then-scope-ge256 : goal.arm-returns-then-scope-ge256
-arm-returns-then-scope-ge256 t c = arm_full _ _ _ _ _ _ c.if-scope-ge256.true
+arm-returns-then-scope-ge256 t c = grind (arith, at_full, scope_count)
 
 pub arm-expression-requires : goal.arm-expression-requires
 arm-expression-requires t c =
@@ -41,13 +42,9 @@ pub begin-expression-requires : goal.begin-expression-requires
 begin-expression-requires t c =
     ((omega (arith, c.decreases, value_below c.requires.0 (sym c.mark_at.ensures ∙ c.if-mark_at-eq-SA.true) c.field_at-e.ensures)), (value_stands c.requires.0 (sym c.mark_at.ensures ∙ c.if-mark_at-eq-SA.true) c.field_at-e.ensures, c.requires.1))
 
-pub begin-returns-in_err-value : goal.begin-returns-in_err-value
-begin-returns-in_err-value t c =
-    rw (handed c.from_residual.ensures.1) (begin_halt _ _ _ _ _ _ (sym c.mark_at.ensures ∙ c.if-mark_at-eq-SA.true) c.field_at-e.ensures c.in_err-value.ensures)
-
 pub begin-returns-in_ok-value : goal.begin-returns-in_ok-value
-begin-returns-in_ok-value t c =
-    begin_assign _ _ _ _ _ _ _ (sym c.mark_at.ensures ∙ c.if-mark_at-eq-SA.true) c.field_at-e.ensures c.in_ok-value.ensures (scope_count _ _ _) c.bind_value.ensures
+unfolding begin_run
+begin-returns-in_ok-value t c = grind (arith, then, scope_count)
 
 pub begin-field_at-e-requires-else-mark_at-eq-SA : goal.begin-field_at-e-requires-else-mark_at-eq-SA
 begin-field_at-e-requires-else-mark_at-eq-SA t c = head_lies c.requires.0 SE (does_mark c.requires.0 (λ z. c.if-mark_at-eq-SA.false (c.mark_at.ensures ∙ z))) 0 tt
@@ -55,9 +52,6 @@ begin-field_at-e-requires-else-mark_at-eq-SA t c = head_lies c.requires.0 SE (do
 pub begin-expression-requires-else-mark_at-eq-SA : goal.begin-expression-requires-else-mark_at-eq-SA
 begin-expression-requires-else-mark_at-eq-SA t c =
     ((omega (arith, c.decreases, does_below c.requires.0 (λ z. c.if-mark_at-eq-SA.false (c.mark_at.ensures ∙ z)) c.field_at-e-else-mark_at-eq-SA.ensures)), (does_stands c.requires.0 (λ z. c.if-mark_at-eq-SA.false (c.mark_at.ensures ∙ z)) c.field_at-e-else-mark_at-eq-SA.ensures, c.requires.1))
-
-pub begin-returns-else-mark_at-eq-SA : goal.begin-returns-else-mark_at-eq-SA
-begin-returns-else-mark_at-eq-SA t c = begin_does _ _ _ _ _ _ (λ z. c.if-mark_at-eq-SA.false (c.mark_at.ensures ∙ z)) c.field_at-e-else-mark_at-eq-SA.ensures c.expression-else-mark_at-eq-SA.ensures
 
 pub block-field_at-count-requires : goal.block-field_at-count-requires
 block-field_at-count-requires t c = lies c.requires.0 1 tt
@@ -106,9 +100,6 @@ pub block-returns : goal.block-returns
 block-returns t c =
     rw (block_is _ _ _ _ _ c.requires.0, ← c.field_at-count.ensures) (begun_end c.loop-k.invariant.2 c.loop-k-test.false c.loop-k.auto.k-end (omega (arith, most c.requires.0 1 tt refl, c.field_at-count.ensures, c.loop-k.invariant.0)) (rw (← c.field_at-count.ensures) at c.in_ok-last.ensures) c.close_all.ensures)
 
-pub body-returns-else-is_functional : goal.body-returns-else-is_functional
-body-returns-else-is_functional t c = body_plain _ _ _ _ _ (sym c.is_functional.ensures ∙ c.if-is_functional.false) c.plain_body.ensures
-
 pub body-field_at-f-requires : goal.body-field_at-f-requires
 body-field_at-f-requires t c = functional_lies c.requires.0 (sym c.is_functional.ensures ∙ c.if-is_functional.true)
 
@@ -116,47 +107,12 @@ pub body-function-requires : goal.body-function-requires
 body-function-requires t c =
     ((omega (arith, c.decreases, functional_below c.requires.0 (sym c.is_functional.ensures ∙ c.if-is_functional.true) c.field_at-f.ensures)), functional_stands c.requires.0 (sym c.is_functional.ensures ∙ c.if-is_functional.true) c.field_at-f.ensures)
 
-pub body-returns-in_ok-g : goal.body-returns-in_ok-g
-body-returns-in_ok-g t c =
-    body_fold _ _ _ _ _ (sym c.is_functional.ensures ∙ c.if-is_functional.true) c.field_at-f.ensures c.in_ok-g.ensures c.fold_body.ensures
-
-pub body-returns-in_err-g : goal.body-returns-in_err-g
-body-returns-in_err-g t c =
-    rw (handed c.from_residual.ensures.1) (body_halt _ _ _ _ _ (sym c.is_functional.ensures ∙ c.if-is_functional.true) c.field_at-f.ensures c.in_err-g.ensures)
-
-pub call-returns : goal.call-returns
-unfolding call_run
-call-returns t c = then _ c.in_ok-b.ensures c.finish.ensures
-
-pub call-returns-in_err-b : goal.call-returns-in_err-b
-unfolding call_run
-call-returns-in_err-b t c = rw (handed c.from_residual.ensures.1) (halt _ c.in_err-b.ensures)
-
 pub choose-field_at-e-requires : goal.choose-field_at-e-requires
 choose-field_at-e-requires t c = lies c.requires.0 1 tt
 
 pub choose-expression-requires : goal.choose-expression-requires
 choose-expression-requires t c =
     ((omega (arith, c.decreases, head_less c.requires.0 1 EXPRESSION tt c.field_at-e.ensures)), (head_is c.requires.0 1 EXPRESSION tt c.field_at-e.ensures, c.requires.1))
-
-pub choose-returns : goal.choose-returns
-choose-returns t c = choose_then _ _ _ _ _ _ c.field_at-e.ensures c.in_ok-s.ensures c.choose_arm.ensures
-
-pub choose-returns-in_err-s : goal.choose-returns-in_err-s
-choose-returns-in_err-s t c = rw (handed c.from_residual.ensures.1) (choose_halt _ _ _ _ _ _ c.field_at-e.ensures c.in_err-s.ensures)
-
-pub complete-returns-then-is_call : goal.complete-returns-then-is_call
-complete-returns-then-is_call t c = complete_call _ _ _ _ _ _ _ c.if-m-eq-EH.false (sym c.is_call.ensures ∙ c.if-is_call.true) c.call.ensures
-
-pub complete-returns-else-is_call : goal.complete-returns-else-is_call
-complete-returns-else-is_call t c = complete_wrap _ _ _ _ _ _ _ c.if-m-eq-EH.false (sym c.is_call.ensures ∙ c.if-is_call.false) c.wrap.ensures
-
-pub element-returns-then-m-eq-EH : goal.element-returns-then-m-eq-EH
-element-returns-then-m-eq-EH t c =
-    element_arm _ _ _ _ _ _ _ _ _ c.if-m-eq-EH.true (c.requires.1.1.after c.if-m-eq-EH.true) c.arm_at-a.ensures.0 c.arm_at-a.ensures.1 c.arm.ensures
-
-pub element-returns-else-m-eq-EH : goal.element-returns-else-m-eq-EH
-element-returns-else-m-eq-EH t c = element_plain _ _ _ _ _ _ _ _ c.if-m-eq-EH.false c.field_at-e.ensures c.expression.ensures
 
 pub elements-element-requires : goal.elements-element-requires
 elements-element-requires t c =
@@ -173,21 +129,15 @@ elements-loop-k-preserved t c =
 pub elements-returns : goal.elements-returns
 elements-returns t c = suffices_done c.loop-k.invariant (omega (arith, c.requires.1.1.1.1)) (omega arith)
 
-pub end-field_at-n-requires : goal.end-field_at-n-requires
-end-field_at-n-requires t c = lies c.requires.0 1 tt
-
-pub end-field_at-e-requires : goal.end-field_at-e-requires
-end-field_at-e-requires t c = end_lies c.requires.0 c.field_at-n.ensures
-
-pub end-returns-then-e : goal.end-returns-then-e
-end-returns-then-e t c = rw (← c.field_at-n.ensures) (end_unit _ _ _ _ _ _ c.field_at-e.ensures c.if-e.true c.put.ensures)
-
 pub end-expression-requires : goal.end-expression-requires
 end-expression-requires t c =
-    ((omega (arith, c.decreases, end_less c.requires.0 c.field_at-n.ensures c.field_at-e.ensures c.if-e.false)), (end_is c.requires.0 c.field_at-n.ensures c.field_at-e.ensures c.if-e.false, c.requires.1))
+    ((omega (arith, c.decreases, end_below c.requires.0 c.in-Some.ensures)), (end_stands c.requires.0 c.in-Some.ensures, c.requires.1))
 
-pub end-returns-else-e : goal.end-returns-else-e
-end-returns-else-e t c = rw (← c.field_at-n.ensures) (end_expr _ _ _ _ _ _ c.field_at-e.ensures c.if-e.false c.expression.ensures)
+pub end-returns-in-Some : goal.end-returns-in-Some
+end-returns-in-Some t c = rw (end_is _ _ _ _ _, ← c.in-Some.ensures) c.expression.ensures
+
+pub end-returns-in-None : goal.end-returns-in-None
+end-returns-in-None t c = rw (end_is _ _ _ _ _, ← c.in-None.ensures) c.put.ensures
 
 pub expression-mark_at-m-requires : goal.expression-mark_at-m-requires
 expression-mark_at-m-requires t c = stands_begins c.requires.0
@@ -208,9 +158,6 @@ expression-returns-in-11 t c = rw (constant_is _ _ _ _ _ (marked c.requires.0 c.
 
 pub expression-returns-in-12 : goal.expression-returns-in-12
 expression-returns-in-12 t c = rw (witness_is _ _ _ _ _ (marked c.requires.0 c.mark_at-m.ensures EW c.in-12.is)) c.witness.ensures
-
-pub expression-returns-in-13 : goal.expression-returns-in-13
-expression-returns-in-13 t c = rw (variable_is _ _ _ _ _ (marked c.requires.0 c.mark_at-m.ensures EV c.in-13.is)) c.variable.ensures
 
 pub expression-returns-in-31 : goal.expression-returns-in-31
 expression-returns-in-31 t c =
@@ -233,13 +180,15 @@ function-expression-requires t c =
     ((omega (arith, c.decreases, fn_less c.requires c.field_at-n.ensures c.field_at-e.ensures)), (fn_stands c.requires c.field_at-n.ensures c.field_at-e.ensures, root_stands (of_function c.requires) c.from_root-scope.ensures))
 
 pub function-returns : goal.function-returns
-function-returns t c = fn_done c.requires c.field_at-n.ensures c.field_at-e.ensures _ c.from_root-scope.ensures c.expression.ensures
+function-returns t c = rw (body_is _ _ _ _ c.requires) (grind (arith, scope_root))
 
 pub row-returns : goal.row-returns
-row-returns t c = row_then _ _ _ _ _ _ c.span_of-span.ensures c.in_ok-elements.ensures c.gather.ensures
+unfolding row_run
+row-returns t c = grind (arith, all_then)
 
 pub row-returns-in_err-elements : goal.row-returns-in_err-elements
-row-returns-in_err-elements t c = rw (handed c.from_residual.ensures.1) (row_halt _ _ _ _ _ _ c.span_of-span.ensures c.in_err-elements.ensures)
+unfolding row_run
+row-returns-in_err-elements t c = grind (arith, all_halt, handed)
 
 pub two_arms-arm_at-left-requires : goal.two_arms-arm_at-left-requires
 two_arms-arm_at-left-requires t c = (lies c.requires.0 2 tt, lies c.requires.0 3 tt)
@@ -263,17 +212,13 @@ two_arms-expression-requires t c =
     ((omega (arith, c.decreases, head_less c.requires.0 1 EXPRESSION tt c.field_at-e.ensures)), (head_is c.requires.0 1 EXPRESSION tt c.field_at-e.ensures, c.requires.1))
 
 pub two_arms-returns-in_err-a : goal.two_arms-returns-in_err-a
-two_arms-returns-in_err-a t c =
-    rw (handed c.from_residual.ensures.1) (arms_is _ _ c.requires.0 c.arm_at-left.ensures.0 c.arm_at-left.ensures.1 c.arm_at-right.ensures.0 c.arm_at-right.ensures.1 c.field_at-e.ensures (halt _ c.in_err-a.ensures))
+two_arms-returns-in_err-a t c = rw (match_is _ _ _ _ _ c.requires.0) (grind (arith, halt, handed))
 
 pub two_arms-returns-in_err-b : goal.two_arms-returns-in_err-b
-two_arms-returns-in_err-b t c =
-    rw (handed c.from_residual-in_err-b.ensures.1) (arms_is _ _ c.requires.0 c.arm_at-left.ensures.0 c.arm_at-left.ensures.1 c.arm_at-right.ensures.0 c.arm_at-right.ensures.1 c.field_at-e.ensures (then _ c.in_ok-a.ensures (halt _ c.in_err-b.ensures)))
+two_arms-returns-in_err-b t c = rw (match_is _ _ _ _ _ c.requires.0) (grind (arith, then, halt, handed))
 
 pub two_arms-returns-in_err-s : goal.two_arms-returns-in_err-s
-two_arms-returns-in_err-s t c =
-    rw (handed c.from_residual-in_err-s.ensures.1) (arms_is _ _ c.requires.0 c.arm_at-left.ensures.0 c.arm_at-left.ensures.1 c.arm_at-right.ensures.0 c.arm_at-right.ensures.1 c.field_at-e.ensures (then _ c.in_ok-a.ensures (then _ c.in_ok-b.ensures (halt _ c.in_err-s.ensures))))
+two_arms-returns-in_err-s t c = rw (match_is _ _ _ _ _ c.requires.0) (grind (arith, then, halt, handed))
 
 pub two_arms-returns : goal.two_arms-returns
-two_arms-returns t c =
-    arms_is _ _ c.requires.0 c.arm_at-left.ensures.0 c.arm_at-left.ensures.1 c.arm_at-right.ensures.0 c.arm_at-right.ensures.1 c.field_at-e.ensures (then _ c.in_ok-a.ensures (then _ c.in_ok-b.ensures (then _ c.in_ok-s.ensures c.match_arms.ensures)))
+two_arms-returns t c = rw (match_is _ _ _ _ _ c.requires.0) (grind (arith, then))

@@ -1,40 +1,25 @@
 -- CHECK's cycle: each function judges what its definition says, and leaves the live bindings as they were.
 -- Assumes nothing.
 use mathlib.Core.Path.{refl, sym, ◌∙◌}
-use native.Mathlib.Nat.{le_trans, le_of_lt}
 use native.Mathlib.Omega.{arith}
 use Rattle.std.proofs.Common.{rules}
-use Rattle.book.specs.Format.{EV, EB, EM, EH, CK}
+use Rattle.book.specs.Format.{EM, EH, CK}
 use Rattle.book.proofs.Standing.{stands_begins}
 use Rattle.parts.proofs.Marks.{at_mark}
-use Rattle.parts.proofs.Spans.{stmt_lies, near_most}
+use Rattle.parts.proofs.Spans.{stmt_lies}
 use Rattle.shapes.proofs.Same.{gives_stands}
 use Rattle.typing.proofs.Depths.{enough_part, enough_one}
 use Rattle.typing.proofs.Scopes.{stays_scoped}
-use Rattle.typing.proofs.Facts.{marked, marked_at, checks_none, row_lies, row_part, block_lies, block_most, stmt_part, end_lies, end_part, does_lies, does_part, bound_lies, bound_part, value_lies, value_part, two_arms, arms_count, enum_arms, cast_lies, cast_part}
+use Rattle.typing.proofs.Facts.{marked, checks_none, row_lies, row_part, block_lies, block_most, stmt_part, end_part, does_lies, does_part, bound_lies, bound_part, value_lies, value_part, two_arms, arms_count, enum_arms, cast_lies, cast_part}
 use Rattle.typing.proofs.Judging.{handed, at_once, stays_as}
-use Rattle.typing.proofs.Steps.{stays_of, arm_then, arm_halt, bound_scoped, place_there, place_type, row_start, arms_none, arms_start, match_not, agreed, block_start, block_scoped, block_halt, block_next, block_none, block_end, does_then, does_halt, does_stated, assign_then, assign_halt, expr_then, expr_halt, parts_block, parts_match, parts_enum, parts_cast, parts_row, row_again, row_halt, arms_again, arms_halt, match_then, match_halt}
+use Rattle.typing.proofs.Steps.{stays_of, arm_then, arm_halt, place_there, place_type, row_start, arms_none, match_not, agreed, block_start, block_scoped, block_halt, block_next, block_none, block_ended, does_then, does_halt, does_stated, assign_then, assign_halt, expr_then, expr_halt, parts_block, parts_match, parts_enum, parts_cast, parts_row, row_again, row_halt, arms_again, arms_halt, match_then, match_halt}
 use Rattle.typing.proofs.cycle.Judge.+checking.Goals as goal
-
-pub arm-bind-requires : goal.arm-bind-requires
-arm-bind-requires t c =
-    record { stands = rw c.field_at-p.ensures c.requires.0.pattern; stands_t = c.requires.1.0; scoped = c.requires.1.1.0; live_in_range = enough_one c.requires.1.1.1 }
-
-pub arm-overflow_add-inner : goal.arm-overflow_add-inner
-arm-overflow_add-inner t c = omega (arith, enough_one c.requires.1.1.1)
-
-pub arm-expression-requires : goal.arm-expression-requires
-arm-expression-requires t c =
-    (omega (arith, c.decreases, c.requires.0.below, c.field_at-e.ensures), (rw c.field_at-e.ensures c.requires.0.body, (bound_scoped c.bind.ensures c.in_ok-bind.was c.requires.1.1.0, enough_part _ _ c.requires.1.1.1 (rw c.field_at-e.ensures c.requires.0.shallower) (omega arith))))
 
 pub arm-returns : goal.arm-returns
 arm-returns t c = arm_then _ c.bind.ensures _ c.field_at-p.ensures c.field_at-e.ensures c.in_ok-bind.was c.expression.ensures
 
 pub arm-returns-in_err-bind : goal.arm-returns-in_err-bind
 arm-returns-in_err-bind t c = arm_halt _ c.bind.ensures _ c.field_at-p.ensures c.field_at-e.ensures (handed c.in_err-bind.was c.from_residual.ensures.1)
-
-pub arms-loop-k-init : goal.arms-loop-k-init
-arms-loop-k-init t c = at_once c.requires.1.1.0.rows (sym (arms_start _ _ _ _ _ _ _))
 
 pub arms-unwrap-s-requires : goal.arms-unwrap-s-requires
 arms-unwrap-s-requires t c = place_there c.requires.1.0 c.loop-k-test.true c.place.ensures
@@ -60,9 +45,6 @@ block-field_at-n-requires t c = block_lies c.requires.0
 pub block-loop-k-init : goal.block-loop-k-init
 block-loop-k-init t c = block_start _ _ c.requires.1.0 c.field_at-n.ensures
 
-pub block-overflow_add-k : goal.block-overflow_add-k
-block-overflow_add-k t c = omega (arith, block_most c.requires.0 c.field_at-n.ensures, c.loop-k-test.true)
-
 pub block-field_at-s-requires : goal.block-field_at-s-requires
 block-field_at-s-requires t c = stmt_lies c.requires.0 _ (omega (arith, c.field_at-n.ensures, c.loop-k-test.true))
 
@@ -83,21 +65,15 @@ pub block-loop-k-preserved : goal.block-loop-k-preserved
 block-loop-k-preserved t c =
     block_next c.loop-k.invariant c.stmt.ensures c.loop-k-test.true c.field_at-s.ensures (stmt_part c.requires.0 _ (omega (arith, c.field_at-n.ensures, c.loop-k-test.true)) c.field_at-s.ensures).stands _ _ c.in_ok-stmt.was refl c.entered-live.ensures
 
-pub block-overflow_add-n : goal.block-overflow_add-n
-block-overflow_add-n t c = omega (arith, block_most c.requires.0 c.field_at-n.ensures)
-
-pub block-field_at-end-requires : goal.block-field_at-end-requires
-block-field_at-end-requires t c = end_lies c.requires.0 _ c.field_at-n.ensures
-
-pub block-returns-then-end : goal.block-returns-then-end
-block-returns-then-end t c = block_none c.loop-k.invariant (omega arith) c.field_at-end.ensures c.if-end.true
-
 pub block-expression-requires : goal.block-expression-requires
 block-expression-requires t c =
-    let p = end_part c.requires.0 _ c.field_at-n.ensures c.field_at-end.ensures c.if-end.false in (omega (arith, c.decreases, p.below), (p.stands, (block_scoped c.loop-k.invariant c.requires.1.0, enough_part _ _ c.requires.1.1 p.shallower (omega (arith, c.loop-k.invariant.few, block_most c.requires.0 c.field_at-n.ensures)))))
+    let p = end_part c.requires.0 c.in-Some.ensures in (omega (arith, c.decreases, p.below), (p.stands, (block_scoped c.loop-k.invariant c.requires.1.0, enough_part _ _ c.requires.1.1 p.shallower (omega (arith, c.loop-k.invariant.few, block_most c.requires.0 c.field_at-n.ensures)))))
 
-pub block-returns-else-end : goal.block-returns-else-end
-block-returns-else-end t c = block_end c.loop-k.invariant (omega arith) c.field_at-end.ensures c.if-end.false c.expression.ensures
+pub block-returns-in-Some : goal.block-returns-in-Some
+block-returns-in-Some t c = block_ended c.loop-k.invariant (omega arith) c.field_at-n.ensures c.in-Some.ensures c.expression.ensures
+
+pub block-returns-in-None : goal.block-returns-in-None
+block-returns-in-None t c = block_none c.loop-k.invariant (omega arith) c.field_at-n.ensures c.in-None.ensures
 
 pub does-field_at-e-requires : goal.does-field_at-e-requires
 does-field_at-e-requires t c = does_lies c.requires.0 c.requires.1.0
@@ -119,16 +95,6 @@ does-returns-in_err-expression t c = does_halt _ _ c.requires.1.0 c.field_at-e.e
 pub expression-mark_at-m-requires : goal.expression-mark_at-m-requires
 expression-mark_at-m-requires t c = stands_begins c.requires.0
 
-pub expression-variable-requires : goal.expression-variable-requires
-expression-variable-requires t c = record { marked = marked_at c.requires.0 c.mark_at-m.ensures EV c.if-m-eq-EV.true; scoped = c.requires.1.0 }
-
-pub expression-parts-requires : goal.expression-parts-requires
-expression-parts-requires t c =
-    (omega (arith, c.decreases), (marked c.requires.0 c.mark_at-m.ensures, (c.requires.1.0, (c.requires.1.1, c.if-m-eq-EV.false))))
-
-pub expression-agrees-requires : goal.expression-agrees-requires
-expression-agrees-requires t c = marked c.requires.0 c.mark_at-m.ensures
-
 pub expression-returns : goal.expression-returns
 expression-returns t c =
     expr_then _ (marked c.requires.0 c.mark_at-m.ensures) c.if-m-eq-EV.false c.parts.ensures c.in_ok-parts.was c.agrees.ensures c.agree.ensures
@@ -139,10 +105,6 @@ expression-returns-in_err-parts t c = expr_halt _ (marked c.requires.0 c.mark_at
 pub matching-returns-in_err-agree : goal.matching-returns-in_err-agree
 matching-returns-in_err-agree t c =
     at_once c.requires.1.0.rows (match_not _ _ _ _ _ _ _ c.field_at-e.ensures c.type_of-t.ensures.1 c.has_places.ensures c.agree.ensures (handed c.in_err-agree.was c.from_residual.ensures.1))
-
-pub matching-arms-requires : goal.matching-arms-requires
-matching-arms-requires t c =
-    (omega (arith, c.decreases), (c.requires.0, (record { type = c.type_of-t.ensures.0; all = agreed _ _ c.has_places.ensures c.agree.ensures c.in_ok-agree.was }, (c.requires.1.0, c.requires.1.1))))
 
 pub matching-expression-requires : goal.matching-expression-requires
 matching-expression-requires t c =
@@ -156,14 +118,11 @@ pub matching-returns-in_err-arms : goal.matching-returns-in_err-arms
 matching-returns-in_err-arms t c =
     match_halt _ _ _ _ _ c.field_at-e.ensures c.type_of-t.ensures.1 (agreed _ _ c.has_places.ensures c.agree.ensures c.in_ok-agree.was) c.arms.ensures (handed c.in_err-arms.was c.from_residual-in_err-arms.ensures.1)
 
-pub parts-block-requires : goal.parts-block-requires
-parts-block-requires t c = (omega (arith, c.decreases), (at_mark c.requires.0 EB c.in-19.is, (c.requires.1.0, c.requires.1.1.0)))
-
 pub parts-returns-in-19 : goal.parts-returns-in-19
 parts-returns-in-19 t c = stays_of c.block.ensures (parts_block _ _ _ _ _ c.in-19.is)
 
 pub parts-matching-requires : goal.parts-matching-requires
-parts-matching-requires t c = (omega (arith, c.decreases), (two_arms (at_mark c.requires.0 EM c.in-22.is), (c.requires.1.0, c.requires.1.1.0)))
+parts-matching-requires t c = (omega (arith, c.decreases), (two_arms (at_mark c.requires.0 EM c.in-22.is), c.requires.1.1))
 
 pub parts-returns-in-22 : goal.parts-returns-in-22
 parts-returns-in-22 t c = stays_of c.matching.ensures (parts_match _ _ _ _ _ c.in-22.is)
@@ -173,7 +132,7 @@ parts-field_at-n-requires t c = arms_count (at_mark c.requires.0 EH c.in-23.is)
 
 pub parts-matching-requires-in-23 : goal.parts-matching-requires-in-23
 parts-matching-requires-in-23 t c =
-    (omega (arith, c.decreases), (enum_arms (at_mark c.requires.0 EH c.in-23.is) _ c.field_at-n.ensures, (c.requires.1.0, c.requires.1.1.0)))
+    (omega (arith, c.decreases), (enum_arms (at_mark c.requires.0 EH c.in-23.is) _ c.field_at-n.ensures, c.requires.1.1))
 
 pub parts-returns-in-23 : goal.parts-returns-in-23
 parts-returns-in-23 t c = stays_of c.matching-in-23.ensures (parts_enum _ _ _ _ _ _ c.in-23.is c.field_at-n.ensures)
@@ -183,7 +142,7 @@ parts-field_at-e-requires t c = cast_lies (at_mark c.requires.0 CK c.in-31.is)
 
 pub parts-expression-requires : goal.parts-expression-requires
 parts-expression-requires t c =
-    let p = cast_part (at_mark c.requires.0 CK c.in-31.is) c.field_at-e.ensures in (omega (arith, c.decreases, p.below), (p.stands, (c.requires.1.0, enough_part _ _ c.requires.1.1.0 p.shallower (omega arith))))
+    let p = cast_part (at_mark c.requires.0 CK c.in-31.is) c.field_at-e.ensures in (omega (arith, c.decreases, p.below), (p.stands, (c.requires.1.1.0, enough_part _ _ c.requires.1.1.1 p.shallower (omega arith))))
 
 pub parts-returns-in-31 : goal.parts-returns-in-31
 parts-returns-in-31 t c = stays_of c.expression.ensures (parts_cast _ _ _ _ _ _ c.in-31.is c.field_at-e.ensures)
@@ -194,14 +153,6 @@ parts-returns-in_default t c =
 
 pub row-loop-k-init : goal.row-loop-k-init
 row-loop-k-init t c = at_once c.requires.1.0.rows (sym (row_start _ c.span_of-span.ensures))
-
-pub row-overflow_mul-span : goal.row-overflow_mul-span
-row-overflow_mul-span t c =
-    omega (arith, near_most _ _ c.span_of-span.ensures.near (le_trans (le_of_lt c.loop-k-test.true) c.span_of-span.ensures.few))
-
-pub row-overflow_add-span : goal.row-overflow_add-span
-row-overflow_add-span t c =
-    omega (arith, c.span_of-span.ensures.low, near_most _ _ c.span_of-span.ensures.near (le_trans (le_of_lt c.loop-k-test.true) c.span_of-span.ensures.few))
 
 pub row-field_at-e-requires : goal.row-field_at-e-requires
 row-field_at-e-requires t c = row_lies c.requires.0 c.span_of-span.ensures _ c.loop-k-test.true
@@ -224,10 +175,6 @@ row-returns t c = stays_as c.loop-k.invariant (sym (checks_none _ _ _ _ _ _ _ (o
 pub stmt-mark_at-requires : goal.stmt-mark_at-requires
 stmt-mark_at-requires t c = stands_begins c.requires.0
 
-pub stmt-does-requires : goal.stmt-does-requires
-stmt-does-requires t c =
-    (omega (arith, c.decreases), (c.requires.0, (λ e. c.if-mark_at-ne-SA.true (c.mark_at.ensures ∙ e), (c.requires.1.0, c.requires.1.1))))
-
 pub stmt-returns-then-mark_at-ne-SA : goal.stmt-returns-then-mark_at-ne-SA
 stmt-returns-then-mark_at-ne-SA t c = does_stated (λ e. c.if-mark_at-ne-SA.true (c.mark_at.ensures ∙ e)) c.requires.1.0 c.does.ensures
 
@@ -244,9 +191,11 @@ stmt-expression-requires t c =
 pub stmt-type_of-t-requires : goal.stmt-type_of-t-requires
 stmt-type_of-t-requires t c = (value_part c.requires.0 (sym c.mark_at.ensures ∙ c.if-mark_at-ne-SA.false) c.field_at-e.ensures).stands
 
-pub stmt-bind-requires : goal.stmt-bind-requires
-stmt-bind-requires t c =
-    record { stands = (bound_part c.requires.0 (sym c.mark_at.ensures ∙ c.if-mark_at-ne-SA.false) c.field_at-p.ensures).stands; stands_t = c.type_of-t.ensures.0; scoped = stays_scoped c.expression.ensures c.requires.1.0; live_in_range = enough_one c.requires.1.1 }
+pub stmt-bind-requires-clause-stands : goal.stmt-bind-requires-clause-stands
+stmt-bind-requires-clause-stands t c = (bound_part c.requires.0 (sym c.mark_at.ensures ∙ c.if-mark_at-ne-SA.false) c.field_at-p.ensures).stands
+
+pub stmt-bind-requires-clause-live_in_range : goal.stmt-bind-requires-clause-live_in_range
+stmt-bind-requires-clause-live_in_range t c = enough_one c.requires.1.1
 
 pub stmt-returns : goal.stmt-returns
 stmt-returns t c =

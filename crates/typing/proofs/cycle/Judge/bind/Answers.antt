@@ -2,15 +2,12 @@
 -- Assumes nothing.
 use mathlib.Core.Path.{refl}
 use Rattle.typing.proofs.Judging.{handed}
-use Rattle.typing.proofs.Leaves.{doubled_long, bind_unfit, bind_twice, bind_passed}
+use Rattle.typing.proofs.Leaves.{bind_unfit, bind_twice, bind_passed}
 use Rattle.typing.proofs.cycle.Judge.bind.Goals as goal
 
 pub returns-in_err-agree : goal.returns-in_err-agree
 returns-in_err-agree c =
     bind_unfit c.requires.scoped _ _ c.requires.stands c.fits.ensures c.agree.ensures (handed c.in_err-agree.was c.from_residual.ensures.1) (record { doubled = refl; memo = refl; vain = refl; bindings = refl })
-
-pub bounds-self-p : goal.bounds-self-p
-bounds-self-p c = doubled_long c.requires.scoped.rows c.requires.stands
 
 pub returns-in_err-hold : goal.returns-in_err-hold
 returns-in_err-hold c =

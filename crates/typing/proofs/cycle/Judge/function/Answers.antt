@@ -1,25 +1,15 @@
 -- `function` meets its contract: its parameter names, its body, and what it gives.
 -- Assumes nothing.
-use native.Mathlib.Omega.{arith}
-use Rattle.typing.proofs.Facts.{params_lie, params_most, gives_lies, body_lies, body_part}
+use Rattle.typing.proofs.Facts.{params_lie, gives_lies, body_lies, body_part}
 use Rattle.typing.proofs.Judging.{handed}
-use Rattle.typing.proofs.Leaves.{doubled_long, fun_live, no_enough, fun_twice, fun_halt, fun_then}
+use Rattle.typing.proofs.Leaves.{fun_live, no_enough, fun_twice, fun_halt, fun_then}
 use Rattle.typing.proofs.cycle.Judge.function.Goals as goal
-
-pub bounds-self-f : goal.bounds-self-f
-bounds-self-f c = doubled_long c.requires.rows c.requires.stands
 
 pub returns-in_err-hold : goal.returns-in_err-hold
 returns-in_err-hold c = fun_twice c.requires.stands c.requires.rows c.hold.ensures (handed c.in_err-hold.was c.from_residual.ensures.1)
 
 pub field_at-n-requires : goal.field_at-n-requires
 field_at-n-requires c = params_lie c.requires.stands
-
-pub overflow_mul-n : goal.overflow_mul-n
-overflow_mul-n c = omega (arith, params_most c.requires.stands c.field_at-n.ensures)
-
-pub overflow_add-n : goal.overflow_add-n
-overflow_add-n c = omega (arith, params_most c.requires.stands c.field_at-n.ensures)
 
 pub field_at-e-requires : goal.field_at-e-requires
 field_at-e-requires c = body_lies c.requires.stands _ c.field_at-n.ensures
