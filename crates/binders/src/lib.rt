@@ -26,8 +26,8 @@ fn width_of(length: usize) -> usize
     if length <= 8192 { 16 } else { 128 }
 }
 
-// The word of a pair, in a memo of so many words: its end where the pattern has no bit for the type. No Option: a pattern beyond the memo
-// asks its callers for the same test.
+// The word of a pair, in a memo of so many words: its end where the pattern has no bit for the type. No Option: its callers
+// hold the word against the memo's length in any case, since a pattern may lie beyond it.
 fn word_of(p: usize, t: usize, length: usize) -> usize
     requires { p < 65536 }
     ensures { result ≡ word_of length p t }
@@ -129,7 +129,8 @@ fn note(name: u16, met: &mut [u16], stamp: u16) -> Noted
 }
 
 // Meets the names of a pattern: `nameless` says of each record whether it was found to have none. A record with names that is met
-// again leads straight to a name that was met.
+// again leads straight to a name that was met. The two rows are lent side by side: a struct of both would be lent by `&mut`, and each
+// promise would say the same of its two fields.
 #[cycle(noting)]
 fn note_all(book: &Book, p: u16, met: &mut [u16], stamp: u16, nameless: &mut [bool]) -> Noted
     requires { (StandsIn book.now p PATTERN) × ((Met stamp met.old) × (NamelessIn book.now nameless.old)) }
@@ -273,7 +274,8 @@ pub fn doubles(book: &Book, n: u16, doubled: &mut [bool])
 }
 
 // The type of a name in a pattern that fits a type, at its first place from the left. `missing` says of each record whether this
-// name was already sought there in vain.
+// name was already sought there in vain. Book and name stay two arguments: a struct of them would be made for each name, and its promises
+// name both anyway.
 #[cycle(sighting)]
 fn type_in(book: &Book, p: u16, t: u16, name: u16, missing: &mut [bool]) -> Option<u16>
     requires { (BindsIn book.now p t) × (MemoIn book.now name missing.old) }
@@ -353,7 +355,7 @@ pub struct Binding {
 }
 
 // The type of a name in the row of live bindings, from the newest on. One row of what was sought in vain serves them all, since they
-// may share their parts.
+// may share their parts. That they are live (`LiveIn`) is a fact of the row and of the book, which are lent apart.
 fn newest_type(
     book: &Book,
     bindings: &[Binding],

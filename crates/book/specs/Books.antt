@@ -1,4 +1,5 @@
--- What contracts say of a book as a whole, in place of its bytes and its index.
+-- What contracts say of a book as a whole, in place of its bytes and its index. Most are facts of a book and of a number that is passed apart,
+-- so that no type has them as an invariant.
 -- Assumes nothing.
 use Rattle.std.specs.Prelude.{ℕ}
 use Rattle.book.specs.Index.{mark, field, Lies}

@@ -78,7 +78,7 @@ pub const CH: u8 = 36;
 
 pub const FN: u8 = 37;
 
-// Kinds of records, numbers for the same reason; 0 is the kind of no mark. A field with one of these roles names a record of that kind.
+// Kinds of records, numbers for the same reason, with 0 for no mark as there. A field with one of these roles names a record of that kind.
 pub const TYPE: u8 = 1;
 
 pub const VALUE: u8 = 2;
@@ -91,7 +91,8 @@ pub const STATEMENT: u8 = 5;
 
 pub const FUNCTION: u8 = 6;
 
-// The other roles of a field, each with its range; END is an expression or 65535 for none.
+// The other roles of a field, each with its range; END is an expression or 65535 for none. They are numbers as the kinds are, so that a
+// range of roles says that a field names a record.
 pub const NAME: u8 = 7;
 
 pub const COUNT: u8 = 8;

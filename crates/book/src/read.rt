@@ -21,8 +21,8 @@ struct Frame {
     end: usize,
 }
 
-// READ's answer, and where each record begins. They stand side by side, and not in a case of the answer: the index is promised after a refusal
-// too, zeros throughout.
+// READ's answer, and where each record begins. They stand side by side, and not in a case of the answer: the index is promised after a
+// refusal too, zeros throughout.
 #[derive(Clone, Copy)]
 pub struct Indexed {
     pub answer: Result<u16, Refusal>,
@@ -93,7 +93,7 @@ fn kind_at(book: &[u8], at: usize) -> u8
     kind_of(mark_of(word(book, at)))
 }
 
-// The kind of the record that a field of this role names by x, if it names one.
+// The kind of the record that a field of this role names by x, if it names one: 65535 is the book's own number for no end.
 #[tactic(auto, unfolding(crate::specs::Read::names))]
 fn kind_named(role: u8, x: u16) -> Option<u8>
     ensures { result ≡ named_of (names role x) }
@@ -167,10 +167,10 @@ fn refusal(fault: Fault, r: usize) -> Refusal
     }
 }
 
-// What READ knows of the records so far: where each begins, which expressions and statements were named, how deep each is; and the chains of
-// types. A chain begins at its head, and each type's link leads on to an earlier one. Both hold a record's number and one more, and 0 ends a
-// chain: the memory is fixed, and an `Option` would double it. The book is no field: these rows are lent by `&mut`, and each promise would
-// have to add that the book among them stays.
+// What READ knows of the records so far: where each begins, which expressions and statements were named, how deep each is; and the chains
+// of types. A chain begins at its head, and each type's link leads on to an earlier one. Both hold a record's number and one more, and 0
+// ends a chain: the memory is fixed, and an `Option` would double it. The book is no field: these rows are lent by `&mut`, and each promise
+// would have to add that the book among them stays.
 #[derive(Drop)]
 struct Reader {
     index: [u16; 4096],

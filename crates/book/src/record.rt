@@ -4,8 +4,8 @@ use crate::word::word;
 use std::marker::Model;
 
 // A book, where each of its records begins, and how many there are: what every pass after READ is lent. Contracts see it as a `Text`. That
-// the book is valid is no invariant of the type: `mark_at` and `field_at` ask only that a record lies in it (docs/PROMISES.md), so who needs
-// more says `Valid`.
+// the book is valid is no invariant of the type: `mark_at` and `field_at` ask only that a record lies in it (docs/PROMISES.md), so who
+// needs more says `Valid`.
 #[derive(Drop)]
 pub struct Book<'a> {
     bytes: &'a [u8],

@@ -19,7 +19,8 @@ pub enum JetEnd {
 }
 
 // Words of one width. A width is a type and not a number, so that each has code of its own: a function that calls itself is not inlined,
-// and a run with many jets took half as long again.
+// and a run with many jets took half as long again. No word here is wider than a byte, so each promise asks that k is at most 3: a bound on
+// a number, for which a type would have to be built at each call.
 trait Width {
     // A word has 2 ^ k bits.
     ghost k: { ℕ };
@@ -166,7 +167,8 @@ fn keep_word(cells: &mut [u8], p: Kept, k: usize, v: u8) -> Kept
     }
 }
 
-// The arguments of jets 0 to 2 are words of 2 ^ k bits: the jet's width over the number of its arguments.
+// The arguments of jets 0 to 2 are words of 2 ^ k bits: the jet's width over the number of its arguments. The leading zeros tell k, as
+// document 01 has it for powers of two.
 #[tactic(auto, using(crate::proofs::Words::some_arguments, crate::proofs::Words::few_zeros, crate::proofs::Words::sizes))]
 fn argument_size(j: u16) -> usize
     requires { j < 3 }

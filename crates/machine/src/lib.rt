@@ -20,10 +20,12 @@ use cells::table::{Kept, LEFT, PAIR, RIGHT, from, keep, kind_at, left_at, right_
 use named::node;
 use nodes::given::{entry, is_typed};
 
-// How deep a node may be entered, and how many frames there are room for.
+// How deep a node may be entered, and how many frames there are room for. A depth is asked to be below it where a frame is put, and at most
+// it elsewhere: as a ghost field of `State` the fact would leave a state without the names of its fields in proofs.
 pub const DEEPEST: usize = 4096;
 
-// What a run is lent: the book, the witness list, the cell of each value record, and the node table.
+// What a run is lent: the book, the witness list, the cell of each value record, and the node table. That the row fits the book (`SoundIn`)
+// is asked by those who read it; most of the machine does not.
 #[derive(Clone, Copy)]
 pub struct Lent<'a> {
     pub book: &'a Book<'a>,
@@ -41,7 +43,7 @@ pub enum Step {
 
 // How many frames there are, the node and the cell of the next step, and how many cells are used. Where a cell is handed back the node
 // is 0. The state must stay in registers: with a node carried along there a run took 4 hundredths longer, and with `depth` after the
-// numbers, where six bytes stay unused at the end, a third longer.
+// numbers, where six bytes stay unused at the end, a third longer. So it is handed on by value, beside the cells and the frames.
 #[derive(Clone, Copy)]
 pub struct State {
     pub depth: usize,

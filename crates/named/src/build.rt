@@ -59,7 +59,8 @@ pub fn along(
     }
 }
 
-// A row of nodes as a balanced tree: the original's fold of a BTreeSlice, for pairs and for cases.
+// A row of nodes as a balanced tree: the original's fold of a BTreeSlice, for pairs and for cases. A book's rows have 256 elements at most,
+// which is asked here and wherever a row is lent: a type for such rows would be made of a slice at each call.
 pub fn join(nodes: &mut Nodes, place: u16, kind: u8, row: &[u16]) -> Result<u16, Refusal>
     requires { length row.now ≤ 256 }
     ensures { Done nodes.old (joins place kind row.now) result nodes.new }

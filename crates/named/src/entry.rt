@@ -6,7 +6,7 @@ ghost use Rattle.named.specs.Entry.{put};
 // The bytes of an entry: a kind, and two numbers of two bytes.
 pub const ENTRY: usize = 5;
 
-// Writes entry n, a kind and two numbers, if the table has room for it. Whether it has. The bytes are written as `put` has them, by
+// Writes entry n, a kind and two numbers, if the table has room for it. Answers whether it had. The bytes are written as `put` has them, by
 // remainder and quotient: `to_le_bytes` would make rows of two only to take them apart.
 #[tactic(auto, unfolding(crate::specs::Cut::room, crate::specs::Entry::put))]
 pub fn write_entry(table: &mut [u8], n: u16, kind: u8, left: u16, right: u16) -> bool

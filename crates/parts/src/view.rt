@@ -33,7 +33,7 @@ fn counted(book: &Book, r: u16, from: usize, stride: usize, k: usize) -> Span
     spanning(from, stride, book.field_at(r, k) as usize)
 }
 
-// The elements of a record that is lowered from a row of them.
+// The elements of a record that is lowered from a row of them. A record's mark is passed beside it, here and above: who asks has read it.
 pub fn span_of(book: &Book, r: u16, m: u8) -> Span
     requires { Marked book.now.bytes book.now.index r m }
     ensures { Spanned book.now.bytes book.now.index r m result }

@@ -4,15 +4,16 @@ use Rattle.std.specs.Prelude.{ℕ, ◌≡◌, Bool, true, false, List, length, g
 use Rattle.std.specs.Prelude as std
 use Rattle.std.proofs.Math.Option.{Option, some, none}
 use Rattle.array.specs.Path.{Side}
-use Rattle.book.specs.Tree.{pattern_of}
+use Rattle.book.specs.Tree.{pattern_of, fun_of}
 use Rattle.book.specs.declared.fault.Refusal.{Refusal}
 use Rattle.named.specs.Trace.{Run}
 use Rattle.named.specs.Combinators.{TAKE, DROP, kinds, select}
 use Rattle.named.specs.Stores.{Done}
 use Rattle.named.specs.Table.{Table}
-use Rattle.pattern.specs.Find.{find}
+use Rattle.pattern.specs.Find.{find, params_pattern, params_of}
 use Rattle.pattern.specs.declared.Near.{Near}
 use Rattle.pattern.specs.declared.Near.TheVariants as nears
+use Rattle.pattern.specs.declared.Search.{Search}
 
 -- document 01, Scope: the selector of a path, for record r
 abbrev pub selector : ℕ → List Side → Run ℕ
@@ -68,3 +69,26 @@ NearFate r d w (Err e) d' = Found r d w (Err e) d'
 pub record Nears (r : ℕ) (d : Table) (w : Option (List Side)) (s : NearSought) (d' : Table) : Type 0 where
   pub kept : length d'.bytes.now ≡ length d.bytes.now
   pub fate : NearFate r d w s d'
+
+-- of what a search is for: its book, its name and its record
+module _ (q : Search) where
+  -- the path to its name in the pattern of record p, and in the parameter tuple of record f
+  abbrev pub find_for : ℕ → Option (List Side)
+  find_for p = find q.name (pattern_of q.book.now.bytes q.book.now.index p)
+
+  abbrev pub find_param : ℕ → Option (List Side)
+  find_param f = find q.name (params_pattern (params_of (fun_of q.book.now.bytes q.book.now.index f)))
+
+  -- a row of what its name was sought in vain in
+  abbrev pub MemoFor : List Bool → Type 0
+  MemoFor ms = Memo q.book.now.bytes q.book.now.index q.name ms
+
+  -- the promise of such a search that comes to w: with that row, without it, and of one that needs none
+  abbrev pub SearchesFor : Option (List Side) → Table → Sought → Table → List Bool → Type 0
+  SearchesFor w d s d' ms = Searches q.book.now.bytes q.book.now.index q.name w q.place d s d' ms
+
+  abbrev pub NearsFor : Option (List Side) → Table → NearSought → Table → Type 0
+  NearsFor w d s d' = Nears q.place d w s d'
+
+  abbrev pub SeeksFor : Option (List Side) → Table → Sought → Table → Type 0
+  SeeksFor w d s d' = Seeks q.place d w s d'

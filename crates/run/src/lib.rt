@@ -60,7 +60,7 @@ pub struct Call<'a> {
 }
 
 impl Call<'_> {
-    // The same once the book is read, over zero cells.
+    // RUN once the book is read, over zero cells.
     fn run_read(&self, cells: &mut [u8]) -> Result<Outcome, Refusal>
         requires valid { ValidIn self.now.book.now }
         requires cells_is { cells.old ≡ replicate (length cells.old) 0 }
@@ -75,7 +75,7 @@ impl Call<'_> {
         }
     }
 
-    // The same once the table is checked: the initial cells, then the last node on cell 0.
+    // RUN once the table is checked too: the initial cells, then the last node on cell 0.
     fn run_table(&self, cells: &mut [u8]) -> Result<Outcome, Refusal>
         requires valid { ValidIn self.now.book.now }
         requires cells_is { cells.old ≡ replicate (length cells.old) 0 }

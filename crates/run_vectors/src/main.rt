@@ -98,9 +98,11 @@ fn put_more(table: &mut [u8], to: usize, more: u8)
     requires to_in_range { 5 ≤ to }
     requires to_fits { to + 1 < length table.old }
 {
-    let n = (word(table, to - ENTRY) as u32) + (more as u32);
-    table[to] = (n % 256) as u8;
-    table[to + 1] = (n / 256 % 256) as u8;
+    let bytes = word(table, to - ENTRY)
+        .wrapping_add(more as u16)
+        .to_le_bytes();
+    table[to] = bytes[0];
+    table[to + 1] = bytes[1];
 }
 
 // An entry like the one before it, its numbers more by the bits of `growth`.

@@ -29,7 +29,8 @@ const MOST: usize = 65536;
 type Pairs = [Option<u16>; 65537];
 
 // Where the text of a value is: its length, with what did not fit; how many pairs are open; the cell that is next, none where one was
-// just written whole. No more pairs are open than there are characters, since each has its parenthesis.
+// just written whole. No more pairs are open than there are characters, since each has its parenthesis. That the
+// length is at most MOST is no field: the last step may pass it.
 #[derive(Clone, Copy)]
 struct Place {
     len: usize,

@@ -11,6 +11,7 @@ use Rattle.book.specs.Tree.{Pat, ignore, pattern_of, fun_of}
 use Rattle.named.specs.Trace.{Run, stop, undefined}
 use Rattle.pattern.specs.Find.{find, params_pattern, params_of}
 use Rattle.pattern.specs.Seeks.{selector}
+use Rattle.pattern.specs.declared.Search.{Search}
 use Rattle.scope_bindings.specs.declared.ScopeBindings.{ScopeBindings}
 
 -- document 01, Scope: the path to a binding: one right for each newer binding, then one left unless the binding is the root, which none is older than
@@ -80,3 +81,22 @@ pub record Roots (x : ℕ) (s : ScopeBindings) : Type 0 where
 pub record Inserts (s : ScopeBindings) (x : ℕ) (s' : ScopeBindings) : Type 0 where
   pub row : s'.bindings ≡ set s.bindings s.count x
   pub count : s'.count ≡ s.count + 1
+
+-- of what a search is for: its book and its name
+module _ (q : Search) where
+  -- in its book a scope stands; a record may be bound
+  abbrev pub ScopeFor : ScopeBindings → Type 0
+  ScopeFor s = ScopeStands q.book.now.bytes q.book.now.index s
+
+  abbrev pub BindsFor : ℕ → Type 0
+  BindsFor x = Binds q.book.now.bytes q.book.now.index x
+
+  -- the path to its name in the entry x, in a scope, and in the first k bindings of a scope, where the others are newer
+  abbrev pub find_bound : ℕ → Option (List Side)
+  find_bound x = find q.name (bound q.book.now.bytes q.book.now.index x)
+
+  abbrev pub lookup_for : ScopeBindings → Option (List Side)
+  lookup_for s = lookup q.name (scope_of q.book.now.bytes q.book.now.index s)
+
+  abbrev pub lookup_first : ScopeBindings → ℕ → Option (List Side)
+  lookup_first s k = lookup_below q.book.now.bytes q.book.now.index s.bindings s.count k q.name

@@ -4,15 +4,15 @@
 ghost use Rattle.std.specs.Prelude.{◌<◌, ◌≤◌, replicate};
 ghost use Rattle.named.specs.Combinators.{TAKE, DROP, kinds, wraps};
 ghost use Rattle.named.specs.Stores.{Done};
-ghost use Rattle.pattern.specs.Find.{find};
-ghost use Rattle.pattern.specs.Seeks.{Memo, Seeks, Searches, Nears};
-ghost use Rattle.scope_bindings.specs.Scope.{reach, lookup, lookup_below, variable, bound, scope_of, Binds, ScopeStands, Roots, Inserts};
+ghost use Rattle.pattern.specs.Seeks.{MemoFor, SeeksFor, SearchesFor, NearsFor};
+ghost use Rattle.scope_bindings.specs.Scope.{reach, variable, scope_of, ScopeStands, Roots, Inserts};
+ghost use Rattle.scope_bindings.specs.Scope.{ScopeFor, BindsFor, lookup_for, lookup_first, find_bound};
 
 use book::fault::{Fault, Refusal};
 use book::format::FN;
 use book::record::Book;
 use named::node::{DROP, Nodes, TAKE};
-use pattern::{Near, get_from, get_param, get_shallow};
+use pattern::{Near, Search};
 
 // An entry for the ignore pattern, which no record need stand for. The entries are no Options: document 01 names a row of 256 filled with
 // the ignore pattern, and an Option would take twice the room in each copy.
@@ -52,7 +52,8 @@ impl ScopeBindings {
         requires { ScopeStands book.now.bytes book.now.index self.now }
         ensures { Done nodes.old (variable place name (scope_of book.now.bytes book.now.index self.now)) result nodes.new }
     {
-        let found = self.get_near(book, name, nodes, place)?;
+        let search = Search { book, name, place };
+        let found = self.get_near(&search, nodes)?;
         found.ok_or(Refusal {
             fault: Fault::Undefined,
             place,
@@ -62,24 +63,18 @@ impl ScopeBindings {
     // Searches the bindings from the newest on, with no row of what was sought in vain, as long as their patterns are flat: to clear such
     // a row for each name and to ask it was nearly half of lowering a block of 200 bindings. The first binding that has a row within a row
     // is searched anew, with a row.
-    fn get_near(
-        &self,
-        book: &Book,
-        name: u16,
-        nodes: &mut Nodes,
-        place: u16,
-    ) -> Result<Option<u16>, Refusal>
-        requires { ScopeStands book.now.bytes book.now.index self.now }
-        ensures { Seeks place nodes.old (lookup name (scope_of book.now.bytes book.now.index self.now)) result nodes.new }
+    fn get_near(&self, search: &Search, nodes: &mut Nodes) -> Result<Option<u16>, Refusal>
+        requires { ScopeFor search.now self.now }
+        ensures { SeeksFor search.now (lookup_for search.now self.now) nodes.old result nodes.new }
     {
         for at in (0..self.count).rev() {
-            match get_flat(book, self.bindings[at], name, nodes, place)? {
+            match get_flat(search, self.bindings[at], nodes)? {
                 Near::Missing => {}
                 Near::Nested => {
-                    return self.get_far(book, at + 1, name, nodes, place);
+                    return self.get_far(search, at + 1, nodes);
                 }
                 Near::Found(found) => {
-                    let node = reach(nodes, place, found, self.count - 1 - at, at)?;
+                    let node = reach(nodes, search.place, found, self.count - 1 - at, at)?;
                     return Ok(Some(node));
                 }
             }
@@ -90,40 +85,36 @@ impl ScopeBindings {
     // Searches the first `from` bindings, the others having been searched in vain, with a row of what was sought in vain.
     fn get_far(
         &self,
-        book: &Book,
+        search: &Search,
         from: usize,
-        name: u16,
         nodes: &mut Nodes,
-        place: u16,
     ) -> Result<Option<u16>, Refusal>
-        requires scope_stands { ScopeStands book.now.bytes book.now.index self.now }
+        requires scope_stands { ScopeFor search.now self.now }
         requires from_in_range { from ≤ self.now.count }
-        ensures { Seeks place nodes.old (lookup_below book.now.bytes book.now.index self.now.bindings self.now.count from name) result nodes.new }
+        ensures { SeeksFor search.now (lookup_first search.now self.now from) nodes.old result nodes.new }
     {
         let mut missing = [false; 4096];
-        self.get_newest(book, from, name, &mut missing, nodes, place)
+        self.get_newest(search, from, &mut missing, nodes)
     }
 
     // The same, the newest of them first. One row of what was sought in vain serves them all, since they may share their parts.
     #[tactic(auto, using(crate::proofs::Reaches::passes))]
     fn get_newest(
         &self,
-        book: &Book,
+        search: &Search,
         from: usize,
-        name: u16,
         missing: &mut [bool],
         nodes: &mut Nodes,
-        place: u16,
     ) -> Result<Option<u16>, Refusal>
-        requires scope_stands { ScopeStands book.now.bytes book.now.index self.now }
+        requires scope_stands { ScopeFor search.now self.now }
         requires from_in_range { from ≤ self.now.count }
-        requires memo { Memo book.now.bytes book.now.index name missing.old }
-        ensures { Searches book.now.bytes book.now.index name (lookup_below book.now.bytes book.now.index self.now.bindings self.now.count from name) place nodes.old result nodes.new missing.new }
+        requires memo { MemoFor search.now missing.old }
+        ensures { SearchesFor search.now (lookup_first search.now self.now from) nodes.old result nodes.new missing.new }
     {
         for at in (0..from).rev() {
             let pattern = self.bindings[at];
-            if let Some(inner) = get_bound(book, pattern, name, missing, nodes, place)? {
-                let node = reach(nodes, place, inner, self.count - 1 - at, at)?;
+            if let Some(inner) = get_bound(search, pattern, missing, nodes)? {
+                let node = reach(nodes, search.place, inner, self.count - 1 - at, at)?;
                 return Ok(Some(node));
             }
         }
@@ -135,48 +126,40 @@ impl ScopeBindings {
 // `get_bound` is its like. They are two: this one has no row of names sought in vain to ask, which saves nearly half of lowering a block of
 // 200 bindings (docs/DECISIONS.md, 20), and its answer is another type, `Near`, which can say that the pattern is nested.
 #[tactic(auto, using(crate::proofs::Scopes::entries))]
-fn get_flat(
-    book: &Book,
-    pattern: u16,
-    name: u16,
-    nodes: &mut Nodes,
-    place: u16,
-) -> Result<Near, Refusal>
-    requires { Binds book.now.bytes book.now.index pattern }
-    ensures { Nears place nodes.old (find name (bound book.now.bytes book.now.index pattern)) result nodes.new }
+fn get_flat(search: &Search, pattern: u16, nodes: &mut Nodes) -> Result<Near, Refusal>
+    requires { BindsFor search.now pattern }
+    ensures { NearsFor search.now (find_bound search.now pattern) nodes.old result nodes.new }
 {
     if pattern == IGNORED {
         Ok(Near::Missing)
-    } else if book.mark_at(pattern) == FN {
-        match get_param(book, pattern, name, nodes, place)? {
+    } else if search.book.mark_at(pattern) == FN {
+        match search.get_param(pattern, nodes)? {
             None => Ok(Near::Missing),
             Some(node) => Ok(Near::Found(node)),
         }
     } else {
-        get_shallow(book, pattern, name, nodes, place)
+        search.get_shallow(pattern, nodes)
     }
 }
 
 // Searches one binding, with a row of what was sought in vain.
 #[tactic(auto, using(crate::proofs::Scopes::entries))]
 fn get_bound(
-    book: &Book,
+    search: &Search,
     pattern: u16,
-    name: u16,
     missing: &mut [bool],
     nodes: &mut Nodes,
-    place: u16,
 ) -> Result<Option<u16>, Refusal>
-    requires binds { Binds book.now.bytes book.now.index pattern }
-    requires memo { Memo book.now.bytes book.now.index name missing.old }
-    ensures { Searches book.now.bytes book.now.index name (find name (bound book.now.bytes book.now.index pattern)) place nodes.old result nodes.new missing.new }
+    requires binds { BindsFor search.now pattern }
+    requires memo { MemoFor search.now missing.old }
+    ensures { SearchesFor search.now (find_bound search.now pattern) nodes.old result nodes.new missing.new }
 {
     if pattern == IGNORED {
         Ok(None)
-    } else if book.mark_at(pattern) == FN {
-        get_param(book, pattern, name, nodes, place)
+    } else if search.book.mark_at(pattern) == FN {
+        search.get_param(pattern, nodes)
     } else {
-        get_from(book, pattern, name, missing, nodes, place)
+        search.get_from(pattern, missing, nodes)
     }
 }
 

@@ -79,7 +79,8 @@ pub fn is_bit(book: &Book, t: u16) -> bool
     is_unit(book, book.field_at(t, 0)) && is_unit(book, book.field_at(t, 1))
 }
 
-// What a type is n of, in balanced pairs: n is a power of two, so both halves of each pair are one type.
+// What a type is n of, in balanced pairs: n is a power of two, so both halves of each pair are one type. That it is one is asked of each
+// caller, who has it from the book's format: a type for such numbers would be built of it and taken apart at each call.
 pub fn halved(book: &Book, t: u16, n: u32) -> Option<u16>
     requires stands { StandsIn book.now t TYPE }
     requires among { T (among powers n) }

@@ -30,7 +30,8 @@ fn part_type(book: &Book, r: u16, j: usize) -> u16
     type_of(book, e)
 }
 
-// The declared type of element k of a row.
+// The declared type of element k of a row. That a row's elements are expressions (`ElementsIn`) is a fact of the book, a record and a span,
+// which are passed apart.
 fn element_type(book: &Book, r: u16, span: Span, k: usize) -> u16
     requires elements { ElementsIn book.now r span }
     requires k_in_range { k < span.count }
@@ -322,7 +323,7 @@ fn array_fold(book: &Book, r: u16, t: u16) -> bool
     is_array(book, array, size, book.field_at(f, 3)) && is_accumulator(book, r, f, t)
 }
 
-// A loop, whose function takes three: the counter, the accumulator and the context, and what it gives.
+// A loop, whose function takes the accumulator, the context and the counter.
 fn for_while(book: &Book, r: u16, t: u16) -> bool
     requires { DeclaresIn book.now r CW t }
     ensures { result ≡ whole (expr_at book.now r) }

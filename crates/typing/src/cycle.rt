@@ -16,9 +16,10 @@ use parts::view::{end_of, span_of};
 use shapes::part::{has_places, is_unit, place, type_of};
 use shapes::whole::agrees;
 
-// What judgements work on: `doubled` says which patterns and functions have a name twice, `memo` which patterns are known to fit which types,
-// `vain` serves a name's search, and `bindings` has the live bindings, with room for 256 of them at each depth. The book is no field: a
-// judge is lent by `&mut`, and each promise would have to add that the book in it stays.
+// What judgements work on: `doubled` says which patterns and functions have a name twice, `memo` which patterns are known to fit which
+// types, `vain` serves a name's search, and `bindings` has the live bindings, with room for 256 of them at each depth: a row, since there
+// is no heap, of which a `Scope` says how many are live. The book is no field: a judge is lent by `&mut`, and each promise would have to
+// add that the book in it stays.
 #[derive(Drop)]
 pub struct Judge<'a> {
     pub doubled: &'a [bool],

@@ -43,8 +43,8 @@ fn records(book: &Book, n: u16) -> Result<(), Refusal>
     }
 }
 
-// What follows the values, with a memo of N words that knows no pair yet: the proof counts to no N. All pairs of at most 512 records have their bit
-// in a memo of 8192 words, and a larger one is dear to clear; that no bit is missing is a matter of speed alone.
+// What follows the values, with a memo of N words that knows no pair yet: the proof counts to no N. All pairs of at most 512 records have
+// their bit in a memo of 8192 words, and a larger one is dear to clear; that no bit is missing is a matter of speed alone.
 fn sized<const N: usize>(book: &Book, n: u16, doubled: &[bool]) -> Result<(), Refusal>
     requires size { N * 4 < 2 ^ 63 }
     requires valid { Valid book.now.bytes book.now.index n }

@@ -19,14 +19,14 @@ use std::io::{Read, Write};
 pub fn low_first(a: u8, b: u8) -> u16
     ensures { result ≡ a + 256 * b }
 {
-    (a as u16) + 256 * (b as u16)
+    u16::from_le_bytes([a, b])
 }
 
 // A number of three bytes, low first.
 pub fn size_of(a: u8, b: u8, c: u8) -> usize
     ensures { result ≡ a + 256 * b + 65536 * c }
 {
-    (a as usize) + 256 * (b as usize) + 65536 * (c as usize)
+    u32::from_le_bytes([a, b, c, 0]) as usize
 }
 
 // Whether a table begins with these bytes.
@@ -68,7 +68,8 @@ pub fn print_totals<W: Write>(out: &mut W, all: u64, wrong: u64) -> io::Result<(
     console::print_count(out, b"wrong", wrong)
 }
 
-// Whether an answer is the one that is due: a success by its count, a refusal by its number and place.
+// Whether an answer is the one that is due: a success by its count, a refusal by its number and place. Not `numbers_of(answer) == due`:
+// the place of a success and the count of a refusal are not looked at.
 pub fn is_due(answer: Result<u16, Refusal>, due: Numbers) -> bool
     ensures { result ≡ is_due answer due }
 {
@@ -124,7 +125,7 @@ struct Head {
 }
 
 impl From<[u8; 8]> for Head {
-    // what is due and the length, as the bytes say
+    // What is due, and the length, as the bytes say.
     ghost from_gives = { λ bytes h. (h.due ≡ due_in bytes) × (h.size ≡ size_in bytes) };
 
     fn from(head: [u8; 8]) -> Head {

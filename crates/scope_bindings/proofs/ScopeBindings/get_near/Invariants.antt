@@ -6,4 +6,4 @@ use Rattle.scope_bindings.proofs.ScopeBindings.get_near.Given as goal
 
 abbrev pub invariant-loop-at : goal.invariant-loop-at
 invariant-loop-at l =
-    Misses (lookup l.name (newest l.book.bytes l.book.index l.self.bindings l.self.count)) l.book.bytes l.book.index l.self.bindings l.self.count l.name l.at l.initial.nodes l.nodes
+    Misses (lookup l.search.name (newest l.search.book.now.bytes l.search.book.now.index l.self.bindings l.self.count)) l.search.book.now.bytes l.search.book.now.index l.self.bindings l.self.count l.search.name l.at l.initial.nodes l.nodes

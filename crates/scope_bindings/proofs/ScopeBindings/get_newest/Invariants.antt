@@ -7,4 +7,4 @@ use Rattle.scope_bindings.proofs.ScopeBindings.get_newest.Given as goal
 
 abbrev pub invariant-loop-at : goal.invariant-loop-at
 invariant-loop-at l =
-    Memo l.book.bytes l.book.index l.name l.missing × Misses (lookup_below l.book.bytes l.book.index l.self.bindings l.self.count l.from l.name) l.book.bytes l.book.index l.self.bindings l.self.count l.name l.at l.initial.nodes l.nodes
+    Memo l.search.book.now.bytes l.search.book.now.index l.search.name l.missing × Misses (lookup_below l.search.book.now.bytes l.search.book.now.index l.self.bindings l.self.count l.from l.search.name) l.search.book.now.bytes l.search.book.now.index l.self.bindings l.self.count l.search.name l.at l.initial.nodes l.nodes

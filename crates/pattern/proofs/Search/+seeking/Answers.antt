@@ -7,7 +7,7 @@ use Rattle.pattern.proofs.Selectors.{seeks_absent, seeks_found, seeks_full, soug
 use Rattle.pattern.proofs.Memos.{memo_more, searched_on}
 use Rattle.pattern.proofs.Passes.{passes_none, passes_all, passes_next, passes_found, passes_full}
 use Rattle.pattern.proofs.Records.{finds_row, name_lies, row_count, row_lies, row_part, row_most}
-use Rattle.pattern.proofs.+seeking.Goals as goal
+use Rattle.pattern.proofs.Search.+seeking.Goals as goal
 
 pub get_from-mark_at-requires : goal.get_from-mark_at-requires
 get_from-mark_at-requires t c = search stands_begins

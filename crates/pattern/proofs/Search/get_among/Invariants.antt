@@ -4,8 +4,8 @@ use Rattle.book.specs.Index.{field}
 use Rattle.book.specs.Tree.{pattern_of}
 use Rattle.pattern.specs.Find.{find}
 use Rattle.pattern.proofs.Passes.{Passes}
-use Rattle.pattern.proofs.get_among.Given as goal
+use Rattle.pattern.proofs.Search.get_among.Given as goal
 
 abbrev pub invariant-loop-k : goal.invariant-loop-k
 invariant-loop-k l =
-    Passes (find l.name (pattern_of l.book.bytes l.book.index l.p)) l.name 1 (λ j. pattern_of l.book.bytes l.book.index (field l.book.bytes l.book.index l.p j)) 1 l.n l.k l.initial.nodes l.nodes
+    Passes (find l.self.name (pattern_of l.self.book.now.bytes l.self.book.now.index l.p)) l.self.name 1 (λ j. pattern_of l.self.book.now.bytes l.self.book.now.index (field l.self.book.now.bytes l.self.book.now.index l.p j)) 1 l.n l.k l.initial.nodes l.nodes

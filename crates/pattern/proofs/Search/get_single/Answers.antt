@@ -2,7 +2,7 @@
 -- Assumes nothing.
 use Rattle.book.proofs.Standing.{stands_begins}
 use Rattle.pattern.proofs.Records.{name_lies}
-use Rattle.pattern.proofs.get_single.Goals as goal
+use Rattle.pattern.proofs.Search.get_single.Goals as goal
 
 pub mark_at-requires : goal.mark_at-requires
 mark_at-requires c = search stands_begins

@@ -6,7 +6,7 @@ use Rattle.named.proofs.Storing.{handed}
 use Rattle.pattern.proofs.Selectors.{nears_absent, nears_nested, nears_found, nears_full, near_missing, near_nested, near_found, near_full}
 use Rattle.pattern.proofs.Passes.{passes_none, passes_all, passes_next, passes_found, passes_full}
 use Rattle.pattern.proofs.Records.{finds_row, row_count, row_lies, row_part, row_most}
-use Rattle.pattern.proofs.get_among.Goals as goal
+use Rattle.pattern.proofs.Search.get_among.Goals as goal
 
 pub field_at-n-requires : goal.field_at-n-requires
 field_at-n-requires c = search row_count
