@@ -6,7 +6,8 @@ ghost use Rattle.book.specs.Tree.{type_of, fun_of};
 ghost use Rattle.typing.specs.Check.{agree, hold, check_fun};
 ghost use Rattle.book.specs.Books.{StandsIn};
 ghost use Rattle.parts.specs.Parts.{MarkedIn};
-ghost use Rattle.typing.specs.Cycle.{Rows, Stays, ArmAt, ArmsAt, Places, parts_of, row_of, match_of, arm_of, statement_of, block_of, live_after, ScopedIn, Judgeable, Judges, BoundIn, StatedIn, checked, all_arms};
+ghost use Rattle.typing.specs.Cycle.{Rows, Stays, ArmAt, ArmsAt, Places, parts_of, row_of, match_of, arm_of, statement_of, block_of, live_after};
+ghost use Rattle.typing.specs.Cycle.{ScopedIn, Judgeable, Judges, BoundIn, StatedIn, checked, all_arms};
 
 use binders::{Binding, fits, type_for};
 use book::fault::{Fault, Refusal};

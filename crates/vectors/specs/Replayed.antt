@@ -22,12 +22,16 @@ total_lines all wrong = count_line (codes "vectors") all ++ count_line (codes "w
 abbrev pub Replayed : List Bool → Option (List ℕ) → Option (List ℕ) → Type 0
 Replayed vs old new = (length vs ≤ 1000000) × Appends old new (wrong_lines (wrongs 0 vs) ++ total_lines (length vs) (length (wrongs 0 vs)))
 
+-- what is left of an input, where that is known
+abbrev pub Left : Type 0
+Left = Option (List ℕ)
+
 -- A turn of a replay. A head of n bytes comes from the input, and a call on what is left, and on what is made of the head, gives this
 -- verdict. p and q are the state that is called, and what is known to be left of the input, before and after.
-abbrev pub Turn : {F R H E : Type 0} → ℕ → (R → Option (List ℕ)) → (List ℕ → H → Type 0) → (F → R → H → Result Bool E → R → F → Type 0) → F × Option (List ℕ) → Bool → F × Option (List ℕ) → Type 0
+abbrev pub Turn : {F R H E : Type 0} → ℕ → (R → Left) → (List ℕ → H → Type 0) → (F → R → H → Result Bool E → R → F → Type 0) → F × Left → Bool → F × Left → Type 0
 Turn {F} {R} {H} n left made step p v q =
     (head : List ℕ) × (x : R) × (h : H) × (y : R) × (length head ≡ n) × Consumes p.1 (left x) head × made head h × step p.0 x h (Ok v) y q.0 × (q.1 ≡ left y)
 
 -- a replay stops after a million vectors, or where less than a head of n bytes is left
-abbrev pub Stops : ℕ → List Bool → Option (List ℕ) → Option (List ℕ) → Type 0
+abbrev pub Stops : ℕ → List Bool → Left → Left → Type 0
 Stops n vs rest new = (length vs ≡ 1000000) ⊎ ((head : List ℕ) × (length head < n) × Consumes rest new head × IsAtEnd new)
