@@ -79,7 +79,7 @@ impl<'a> Nodes<'a> {
                 place,
             });
         }
-        self.next += 1;
+        self.next = node + 1;
         Ok(node)
     }
 }

@@ -1,10 +1,14 @@
 -- The way to a place of a type: each turn leads to one side, until one place is left.
 -- Assumes nothing.
 use Prim.Native.Nat.{ℕ, ◌-◌, ◌≤◌, ◌<◌}
+use mathlib.Core.Bool.{Bool, true, false}
 use mathlib.Core.List.{List}
 use mathlib.Core.Option.{Option}
-use mathlib.Core.Path.{◌≡◌, ◌∙◌}
+use mathlib.Core.Path.{◌≡◌, refl, ◌∙◌}
 use native.Mathlib.Omega.{arith}
+use lib.Dec.{leb}
+use mir.Val.{bool_byte}
+use Rattle.std.proofs.lemmas.Bool.{leb-true, leb-false}
 use Rattle.array.specs.Split.{split_of, Split}
 use Rattle.array.proofs.Paths.{path_one, path_left, path_right}
 use Rattle.simplicity.specs.Types.{Ty}
@@ -52,6 +56,14 @@ module _ {b i : List ℕ} {m : ℕ} {o : Option Ty} {t n k : ℕ} (g : On b i m 
     pub right_none : s ≤ k → Gives b i (side_is m 1 (type_of b i t)) None → Gives b i o None
     unfolding onward
     right_none l v = nowhere (right_is l ∙ rw (gives_none v))
+
+    -- there is none on the side of the turn, which is to the right from the split on
+    pub way_none : Gives b i (side_is m (bool_byte (leb s k)) (type_of b i t)) None → Gives b i o None
+    way_none = go (leb s k) refl
+      where
+        go : (right : Bool) → leb s k ≡ right → Gives b i (side_is m (bool_byte right) (type_of b i t)) None → Gives b i o None
+        go true e v = right_none (leb-true s k e) v
+        go false e v = left_none (leb-false s k e) v
 
     pub way_left : {y : ℕ} → k < s → Gives b i (side_is m 0 (type_of b i t)) (Some y) → On b i m o y s k
     unfolding onward

@@ -48,13 +48,13 @@ pub fn place(book: &Book, m: u8, t: u16, n: u32, k: u32) -> Option<u16>
     // How many turns there are depends on the place, so that no range counts them.
     while 1 < count {
         let half = split(count);
-        if left < half {
-            at = side(book, m, at, 0)?;
-            count = half;
-        } else {
-            at = side(book, m, at, 1)?;
+        let right = half <= left;
+        at = side(book, m, at, right as usize)?;
+        if right {
             count -= half;
             left -= half;
+        } else {
+            count = half;
         }
     }
     Some(at)

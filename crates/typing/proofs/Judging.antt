@@ -53,18 +53,19 @@ first_passes y h e = rw (sym e ∙ h)
 
 -- what is judged at once
 pub at_once : {b i : List ℕ} {q : Judge} {n : ℕ} {c v : Checked} → Rows b i q → c ≡ v → Stays b i v n q c q
-at_once o e = record { is = e; doubled = refl; known = o.known; missing = o.missing; kept = refl; before = λ j h. refl }
+at_once o e = record { is = e; doubled = refl; lent = refl; known = o.known; missing = o.missing; kept = refl; before = λ j h. refl }
 
 module _ {b i : List ℕ} {v : Checked} {n : ℕ} {q : Judge} {w : Checked} {q₁ : Judge} (s : Stays b i v n q w q₁) where
   -- the same by another name
   pub stays_as : {u : Checked} → u ≡ w → Stays b i v n q u q₁
-  stays_as e = record { is = e ∙ s.is; doubled = s.doubled; known = s.known; missing = s.missing; kept = s.kept; before = s.before }
+  stays_as e = record { is = e ∙ s.is; doubled = s.doubled; lent = s.lent; known = s.known; missing = s.missing; kept = s.kept; before = s.before }
 
   -- what is left was judged, where at least as many bindings are live
   pub stays_on : {k : ℕ} {c : Checked} {q₂ : Judge} → Stays b i w k q₁ c q₂ → n ≤ k → Stays b i v n q c q₂
   stays_on d h = record {
     is = d.is ∙ s.is;
     doubled = d.doubled ∙ s.doubled;
+    lent = d.lent ∙ s.lent;
     known = d.known;
     missing = d.missing;
     kept = d.kept ∙ s.kept;
@@ -77,6 +78,7 @@ module _ {b i : List ℕ} {x : Checked} {k : ℕ} {q₁ : Judge} {c : Checked} {
   first e = record {
     is = e ∙ s.is;
     doubled = d.doubled ∙ s.doubled;
+    lent = d.lent ∙ s.lent;
     known = d.known;
     missing = d.missing;
     kept = d.kept ∙ s.kept;

@@ -37,7 +37,7 @@ use Rattle.typing.proofs.Steps.{stays_of, both_halt, both_last}
 -- a variable that is in scope, and one that is not: the search has written into the row of what was sought in vain
 module _ {b i : List ℕ} {q : Judge} {n : ℕ} {base : Answer ℕ} (s : Scoped b i q n base) {r : ℕ} (g : Marked b i r EV) (x : ℕ) (z : x ≡ field b i r 1) where
   sought : {a : Checked} {ms : List Bool} → a ≡ check (expr_of b i r) (scope_of b i q.bindings n base) → length ms ≡ 4096 → Stays b i (check (expr_of b i r) (scope_of b i q.bindings n base)) n q a (record q { vain = ms })
-  sought e l = record { is = e; doubled = refl; known = s.rows.known; missing = l; kept = refl; before = λ j h. refl }
+  sought e l = record { is = e; doubled = refl; lent = refl; known = s.rows.known; missing = l; kept = refl; before = λ j h. refl }
 
   pub variable_none : {ms : List Bool} → Gives b i (type_for x (scope_of b i q.bindings n base)) None → length ms ≡ 4096 → Stays b i (check (expr_of b i r) (scope_of b i q.bindings n base)) n q (Err (refusal faults.Undefined r)) (record q { vain = ms })
   unfolding known
@@ -52,6 +52,7 @@ module _ {b i : List ℕ} {q : Judge} {n : ℕ} {base : Answer ℕ} (s : Scoped 
 -- another memo and another row of bindings, and the rest as it was
 pub record Beside (q : Judge) (m : List ℕ) (bs : List Entry) (q' : Judge) : Type 0 where
   pub doubled : q'.doubled.now ≡ q.doubled.now
+  pub lent : q'.memo.ghost_name ≡ q.memo.ghost_name
   pub memo : q'.memo.now ≡ m
   pub vain : q'.vain ≡ q.vain
   pub bindings : q'.bindings ≡ bs
@@ -64,7 +65,7 @@ module _ {b i : List ℕ} {q : Judge} {n : ℕ} {base : Answer ℕ} (s : Scoped 
   -- where the row of bindings stays as it is
   unbound : {a : Checked} {q' : Judge} → a ≡ binds r (pattern_of b i p) (type_of b i t) → (a ≡ Ok tt → ⊥) → Beside q m₁ q.bindings q' → Bound b i (binds r (pattern_of b i p) (type_of b i t)) p t n base q a q'
   unbound z w o = record {
-    stays = record { is = z; doubled = o.doubled; known = subst (Known b i) (sym o.memo) d.known; missing = ap length o.vain ∙ s.rows.missing; kept = ap length o.bindings; before = λ j h. ap (λ bs. entry_at bs j) o.bindings };
+    stays = record { is = z; doubled = o.doubled; lent = o.lent; known = subst (Known b i) (sym o.memo) d.known; missing = ap length o.vain ∙ s.rows.missing; kept = ap length o.bindings; before = λ j h. ap (λ bs. entry_at bs j) o.bindings };
     newer = λ u. absurd (w u);
   }
 
@@ -90,6 +91,7 @@ module _ {b i : List ℕ} {q : Judge} {n : ℕ} {base : Answer ℕ} (s : Scoped 
           stays = record {
             is = sym z ∙ bind_is;
             doubled = o.doubled;
+            lent = o.lent;
             known = subst (Known b i) (sym o.memo) d.known;
             missing = ap length o.vain ∙ s.rows.missing;
             kept = ap length o.bindings ∙ wider_length s h p t;

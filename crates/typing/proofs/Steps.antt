@@ -64,7 +64,7 @@ after_most b i s n = go (eqb (mark b i s) SA)
 -- one judgement passed and another followed; one was refused
 module _ {b i : List ℕ} {x : Checked} {n : ℕ} {q : Judge} {c : Checked} {q₁ : Judge} (d : Stays b i x n q c q₁) where
   both : {a v : Checked} → a ≡ v → Stays b i v n q a q₁
-  both e = record { is = e; doubled = d.doubled; known = d.known; missing = d.missing; kept = d.kept; before = d.before }
+  both e = record { is = e; doubled = d.doubled; lent = d.lent; known = d.known; missing = d.missing; kept = d.kept; before = d.before }
 
   pub both_then : {y : Checked} {k : ℕ} {c₂ : Checked} {q₂ : Judge} → c ≡ Ok tt → Stays b i y k q₁ c₂ q₂ → n ≤ k → Stays b i (result_and x y) n q c₂ q₂
   both_then {y} e f h = stays_on (both (sym (first_passes y e d.is))) f h
@@ -78,7 +78,7 @@ module _ {b i : List ℕ} {x : Checked} {n : ℕ} {q : Judge} {c : Checked} {q�
 
 -- a judgement of what is the same
 pub stays_of : {b i : List ℕ} {v w : Checked} {n : ℕ} {q : Judge} {c : Checked} {q₁ : Judge} → Stays b i v n q c q₁ → w ≡ v → Stays b i w n q c q₁
-stays_of d e = record { is = d.is ∙ sym e; doubled = d.doubled; known = d.known; missing = d.missing; kept = d.kept; before = d.before }
+stays_of d e = record { is = d.is ∙ sym e; doubled = d.doubled; lent = d.lent; known = d.known; missing = d.missing; kept = d.kept; before = d.before }
 
 -- an arm
 module _ {b i : List ℕ} (r : ℕ) {p t e n : ℕ} {base : Answer ℕ} {q : Judge} {c : Checked} {q₁ : Judge} (d : Bound b i (binds r (pattern_of b i p) (type_of b i t)) p t n base q c q₁) (j : ℕ) (z : p ≡ field b i r j) (y : e ≡ field b i r (j + 1)) where
