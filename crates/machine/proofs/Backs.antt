@@ -18,7 +18,8 @@ use Rattle.std.specs.Prelude.{Result, Ok, Err}
 use Rattle.machine.specs.declared.Step.TheVariants.{Back}
 use Rattle.machine.specs.declared.Halt.{Halt}
 use Rattle.machine.specs.declared.Frame.{Frame}
-use Rattle.machine.specs.declared.Frame.TheVariants.{Skip, Second, Beside, Lefted, Righted, Paired}
+use Rattle.machine.specs.declared.Frame.TheVariants.{Skip, Second, Lefted, Righted, Pair}
+use Rattle.machine.specs.declared.Half.TheVariants.{Left, Right}
 use Rattle.cells.specs.Entries.{left_at, right_at}
 use Rattle.nodes.specs.Given.{Given, typed, supplies}
 use Rattle.cells.specs.Cells.{World, refuses, Out, got, halt, deliver}
@@ -57,10 +58,10 @@ module _ {g : Given} {c : List ℕ} {f : List Frame} {s : State} (z : s.step ≡
       back_down g c f s (s.depth - 1) (Second n) z (below s.depth nz) (under s.depth nz le) w dn (weight_second n)
       (λ kids. frame_second g kids n s.value s.used c _ m q)
 
-  pub back_beside : {n h m : ℕ} {f' : List Frame} {r : State} → get_or f (s.depth - 1) Skip ≡ Beside n h
-      → Downed f (s.depth - 1) (Paired n s.value) m h s.used f' r → m ≡ right_at g.nodes n → Turned g c f s c f' (Ok r)
+  pub back_beside : {n h m : ℕ} {f' : List Frame} {r : State} → get_or f (s.depth - 1) Skip ≡ Pair Left n h
+      → Downed f (s.depth - 1) (Pair Right n s.value) m h s.used f' r → m ≡ right_at g.nodes n → Turned g c f s c f' (Ok r)
   back_beside {n} {h} {m} w dn q =
-      back_down g c f s (s.depth - 1) (Beside n h) z (below s.depth nz) (under s.depth nz le) w dn (weight_beside n h s.value)
+      back_down g c f s (s.depth - 1) (Pair Left n h) z (below s.depth nz) (under s.depth nz le) w dn (weight_beside n h s.value)
       (λ kids. frame_beside g kids n s.value s.used c _ h m q)
 
   pub back_lefted : {n : ℕ} {c' : List ℕ} {r : Result State Halt} → get_or f (s.depth - 1) Skip ≡ Lefted n
@@ -73,10 +74,10 @@ module _ {g : Given} {c : List ℕ} {f : List Frame} {s : State} (z : s.step ≡
   back_righted {n} w h =
       back_hand g c f s (s.depth - 1) (Righted n) z (below s.depth nz) (under s.depth nz le) w h (λ kids. frame_righted g kids n s.value s.used c _)
 
-  pub back_paired : {n h : ℕ} {c' : List ℕ} {r : Result State Halt} → get_or f (s.depth - 1) Skip ≡ Paired n h
+  pub back_paired : {n h : ℕ} {c' : List ℕ} {r : Result State Halt} → get_or f (s.depth - 1) Skip ≡ Pair Right n h
       → Handed c s.used (s.depth - 1) (store n 4 h s.value) c' r → Turned g c f s c' f r
   back_paired {n} {h} w hd =
-      back_hand g c f s (s.depth - 1) (Paired n h) z (below s.depth nz) (under s.depth nz le) w hd (λ kids. frame_paired g kids n s.value s.used c _ h)
+      back_hand g c f s (s.depth - 1) (Pair Right n h) z (below s.depth nz) (under s.depth nz le) w hd (λ kids. frame_paired g kids n s.value s.used c _ h)
 
 -- WITNESSES
 module _ (g : Given) (n x : ℕ) (w : World) (q : x ≡ left_at g.nodes n) where

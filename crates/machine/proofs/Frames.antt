@@ -11,7 +11,8 @@ use Rattle.nodes.specs.Given.{Given}
 use Rattle.cells.specs.Cells.{End, Out, halt, add, bind}
 use Rattle.machine.specs.Run.{DEEP, Runs, run}
 use Rattle.machine.specs.declared.Frame.{Frame}
-use Rattle.machine.specs.declared.Frame.TheVariants.{Skip, Second, Beside, Lefted, Righted, Paired}
+use Rattle.machine.specs.declared.Frame.TheVariants.{Skip, Second, Lefted, Righted, Pair}
+use Rattle.machine.specs.declared.Half.TheVariants.{Left, Right}
 use Rattle.machine.specs.Machine.{holding, apply, resume, frames, waiting}
 use Rattle.cells.proofs.Outs.{bind_add}
 
@@ -19,10 +20,10 @@ apply_add : (g : Given) (kids : Runs) (f : Frame) (t : ℕ) (o : Out) → apply 
 unfolding apply
 apply_add g kids Skip t o = refl
 apply_add g kids (Second n) t o = bind_add t o _
-apply_add g kids (Beside n h) t o = bind_add t o _
+apply_add g kids (Pair Left n h) t o = bind_add t o _
 apply_add g kids (Lefted n) t o = bind_add t o _
 apply_add g kids (Righted n) t o = bind_add t o _
-apply_add g kids (Paired n h) t o = bind_add t o _
+apply_add g kids (Pair Right n h) t o = bind_add t o _
 
 -- nodes entered before count before all that the frames do
 pub resume_add : (g : Given) (k : ℕ) (fs : List Frame) (t : ℕ) (o : Out) → resume g k fs (add t o) ≡ add t (resume g k fs o)
@@ -34,10 +35,10 @@ apply_halt : (g : Given) (kids : Runs) (f : Frame) (t : ℕ) (e : End) (n : ℕ)
 unfolding apply bind
 apply_halt g kids Skip t e n = refl
 apply_halt g kids (Second m) t e n = refl
-apply_halt g kids (Beside m h) t e n = refl
+apply_halt g kids (Pair Left m h) t e n = refl
 apply_halt g kids (Lefted m) t e n = refl
 apply_halt g kids (Righted m) t e n = refl
-apply_halt g kids (Paired m h) t e n = refl
+apply_halt g kids (Pair Right m h) t e n = refl
 
 -- an end passes through the frames
 pub resume_halt : (g : Given) (k : ℕ) (fs : List Frame) (t : ℕ) (e : End) (n : ℕ) → resume g k fs (halt t e n) ≡ halt t e n

@@ -15,7 +15,8 @@ use Rattle.machine.specs.declared.Halt.{Halt}
 use Rattle.machine.specs.declared.Ended.{Ended}
 use Rattle.machine.specs.declared.Ended.TheVariants.{Refused}
 use Rattle.machine.specs.declared.Frame.{Frame}
-use Rattle.machine.specs.declared.Frame.TheVariants.{Skip, Second, Beside, Lefted, Righted, Paired}
+use Rattle.machine.specs.declared.Frame.TheVariants.{Skip, Second, Lefted, Righted, Pair}
+use Rattle.machine.specs.declared.Half.TheVariants.{Left, Right}
 use Rattle.cells.specs.declared.table.Kept.{Kept}
 use Rattle.nodes.specs.Given.{Given}
 use Rattle.cells.specs.Cells.{World, world, Out, got, halt, add, bind, store}
@@ -32,19 +33,19 @@ weight_le : (f : Frame) → weight f ≤ 3
 unfolding weight
 weight_le Skip = omega arith
 weight_le (Second n) = omega arith
-weight_le (Beside n h) = omega arith
+weight_le (Pair Left n h) = omega arith
 weight_le (Lefted n) = omega arith
 weight_le (Righted n) = omega arith
-weight_le (Paired n h) = omega arith
+weight_le (Pair Right n h) = omega arith
 
 weight_pos : (f : Frame) → 0 < weight f
 unfolding weight
 weight_pos Skip = omega arith
 weight_pos (Second n) = omega arith
-weight_pos (Beside n h) = omega arith
+weight_pos (Pair Left n h) = omega arith
 weight_pos (Lefted n) = omega arith
 weight_pos (Righted n) = omega arith
-weight_pos (Paired n h) = omega arith
+weight_pos (Pair Right n h) = omega arith
 
 -- what is handed back at depth d leads to what the frames there make of it
 outcome_at : (g : Given) (t : List ℕ) (f : List Frame) (d : ℕ) (r : Result State Halt) → IfOk r (λ s. s.depth ≡ d)

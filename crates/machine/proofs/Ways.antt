@@ -13,7 +13,8 @@ use Rattle.cells.specs.Entries.{kind_at, left_at, right_at}
 use Rattle.nodes.specs.Given.{Given, cell_of}
 use Rattle.cells.specs.Cells.{shape_at, World, world, hold, fails, refuses, got, halt, bind, store, deliver}
 use Rattle.machine.specs.Run.{Runs, hand_on, witnessed, node_kinds, by_kind}
-use Rattle.machine.specs.declared.Frame.TheVariants.{Skip, Second, Beside, Lefted, Righted, Paired}
+use Rattle.machine.specs.declared.Frame.TheVariants.{Skip, Second, Lefted, Righted, Pair}
+use Rattle.machine.specs.declared.Half.TheVariants.{Left, Right}
 use Rattle.machine.specs.Machine.{apply, weight, Branches}
 use Rattle.cells.proofs.Outs.{add_none}
 use Rattle.cells.proofs.Shapes.{left_shape, right_shape, pair_shape, no_sum, no_pair}
@@ -71,7 +72,7 @@ module _ (g : Given) (n x : ℕ) (w : World) (kids : Runs) where
   unfolding by_kind apply
   kind_comp m e q = rw (e, q)
 
-  pub kind_pair : (m : ℕ) → kind_at g.nodes n ≡ 9 → m ≡ left_at g.nodes n → by_kind g kids n x w ≡ apply g kids (Beside n x) (kids m x (hold x w))
+  pub kind_pair : (m : ℕ) → kind_at g.nodes n ≡ 9 → m ≡ left_at g.nodes n → by_kind g kids n x w ≡ apply g kids (Pair Left n x) (kids m x (hold x w))
   unfolding by_kind apply
   kind_pair m e q = rw (e, q)
 
@@ -143,7 +144,7 @@ module _ (g : Given) (kids : Runs) (n v u : ℕ) (c hs : List ℕ) where
   unfolding apply bind
   frame_second m q = rw q (add_none _)
 
-  pub frame_beside : (h m : ℕ) → m ≡ right_at g.nodes n → apply g kids (Beside n h) (got 0 v (world u c (h ∷ hs))) ≡ apply g kids (Paired n v) (kids m h (world u c (v ∷ hs)))
+  pub frame_beside : (h m : ℕ) → m ≡ right_at g.nodes n → apply g kids (Pair Left n h) (got 0 v (world u c (h ∷ hs))) ≡ apply g kids (Pair Right n v) (kids m h (world u c (v ∷ hs)))
   unfolding apply bind
   frame_beside h m q = rw q (add_none _)
 
@@ -155,7 +156,7 @@ module _ (g : Given) (kids : Runs) (n v u : ℕ) (c hs : List ℕ) where
   unfolding apply bind
   frame_righted = add_none _
 
-  pub frame_paired : (h : ℕ) → apply g kids (Paired n h) (got 0 v (world u c (h ∷ hs))) ≡ store n 4 h v (world u c hs)
+  pub frame_paired : (h : ℕ) → apply g kids (Pair Right n h) (got 0 v (world u c (h ∷ hs))) ≡ store n 4 h v (world u c hs)
   unfolding apply bind
   frame_paired h = add_none _
 
@@ -164,6 +165,6 @@ pub weight_second : (n : ℕ) → weight Skip + 1 < weight (Second n)
 unfolding weight
 weight_second n = omega arith
 
-pub weight_beside : (n h v : ℕ) → weight (Paired n v) + 1 < weight (Beside n h)
+pub weight_beside : (n h v : ℕ) → weight (Pair Right n v) + 1 < weight (Pair Left n h)
 unfolding weight
 weight_beside n h v = omega arith

@@ -20,7 +20,8 @@ use Rattle.machine.specs.declared.Halt.{Halt}
 use Rattle.machine.specs.declared.Ended.{Ended}
 use Rattle.machine.specs.declared.Ended.TheVariants.{Failed, Refused}
 use Rattle.machine.specs.declared.Frame.{Frame}
-use Rattle.machine.specs.declared.Frame.TheVariants.{Skip, Second, Beside, Lefted, Righted, Paired}
+use Rattle.machine.specs.declared.Frame.TheVariants.{Skip, Second, Lefted, Righted, Pair}
+use Rattle.machine.specs.declared.Half.TheVariants.{Left, Right}
 
 -- a row has the cell of each value record
 pub record Placed (b : Text) (row : List ℕ) : Type 0 where
@@ -39,15 +40,16 @@ given_in l = given l.book.now l.witnesses.now l.nodes.now
 abbrev pub SoundIn : Lent → Type 0
 SoundIn l = Sound l.book.now l.row.now
 
--- what a frame makes of an outcome, children running as `kids`: it hands the value on; it runs the other child on the value, or on the newest
--- cell that waits, with the value waiting in its place; it stores the left, the right of the value, or the pair of the newest cell and the value
+-- what a frame makes of an outcome, children running as `kids`: it hands the value on; it runs the other child on the value; it stores the left,
+-- the right of the value; of a pair it runs the right child on the newest cell that waits, with the value waiting in its place, or stores the
+-- pair of the newest cell and the value
 unfoldable pub apply : Given → Runs → Frame → Out → Out
 apply g kids Skip o = o
 apply g kids (Second n) o = bind o (kids (right_of g n))
-apply g kids (Beside n h) o = bind o (λ a w. keeping a (kids (right_of g n) (newest w)) (λ b c. store n pair_cell c b) (let_go w))
 apply g kids (Lefted n) o = bind o (λ v. store n left_cell v 0)
 apply g kids (Righted n) o = bind o (λ v. store n right_cell v 0)
-apply g kids (Paired n h) o = bind o (λ b w. store n pair_cell (newest w) b (let_go w))
+apply g kids (Pair Left n h) o = bind o (λ a w. keeping a (kids (right_of g n) (newest w)) (λ b c. store n pair_cell c b) (let_go w))
+apply g kids (Pair Right n h) o = bind o (λ b w. store n pair_cell (newest w) b (let_go w))
 
 -- what all frames make of it, where k more nodes may be entered below the newest
 unfoldable pub resume : Given → ℕ → List Frame → Out → Out
@@ -58,10 +60,9 @@ resume g k (f ∷ fs) o = resume g (suc k) fs (apply g (run k g) f o)
 abbrev pub holding : Frame → List ℕ → List ℕ
 holding Skip hs = hs
 holding (Second n) hs = hs
-holding (Beside n h) hs = h ∷ hs
 holding (Lefted n) hs = hs
 holding (Righted n) hs = hs
-holding (Paired n h) hs = h ∷ hs
+holding (Pair half n h) hs = h ∷ hs
 
 -- the first d frames of a row, newest first, and the cells that wait in them
 unfoldable pub frames : List Frame → ℕ → List Frame
@@ -111,10 +112,10 @@ over_at t (Err h) = halt 0 (end_of h.end) h.node
 unfoldable pub weight : Frame → ℕ
 weight Skip = 1
 weight (Second n) = 3
-weight (Beside n h) = 3
 weight (Lefted n) = 1
 weight (Righted n) = 1
-weight (Paired n h) = 1
+weight (Pair Left n h) = 3
+weight (Pair Right n h) = 1
 
 unfoldable pub weights : List Frame → ℕ
 weights [] = 0

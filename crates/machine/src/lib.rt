@@ -67,16 +67,24 @@ pub struct Halt {
     pub node: u16,
 }
 
-// What is left to do at a node once a child has given a value: to hand the value on; to run the other child on it, or on the cell that is
-// held; to store the left, the right of the value, or the pair of the cell that is held and the value.
+// Which child of a pair is at work.
+#[derive(Clone, Copy)]
+pub enum Half {
+    Left,
+    Right,
+}
+
+// What is left to do at a node once a child has given a value: to hand the value on; to run the other child on it; to store the left or the
+// right of the value; and of a pair, to run the right child on the cell that is held, or to store the pair of the cell that is held and the
+// value. The halves of a pair are one case: as two cases of six each was reached by a jump through one table, and a run of pairs took half as
+// long again.
 #[derive(Clone, Copy)]
 pub enum Frame {
     Skip,
     Second { node: u16 },
-    Beside { node: u16, held: u16 },
     Lefted { node: u16 },
     Righted { node: u16 },
-    Paired { node: u16, held: u16 },
+    Pair { half: Half, node: u16, held: u16 },
 }
 
 impl From<JetEnd> for Ended {
@@ -279,7 +287,11 @@ fn enter(
         node::PAIR => Ok(down(
             frames,
             s,
-            Frame::Beside { node: n, held: x },
+            Frame::Pair {
+                half: Half::Left,
+                node: n,
+                held: x,
+            },
             left_at(nodes, n),
             x,
         )),
@@ -312,19 +324,25 @@ fn back_to(
     match frames[d] {
         Frame::Skip => Ok(t),
         Frame::Second { node } => Ok(down(frames, t, Frame::Skip, right_at(nodes, node), v)),
-        Frame::Beside { node, held } => {
-            let frame = Frame::Paired { node, held: v };
-            Ok(down(frames, t, frame, right_at(nodes, node), held))
-        }
         Frame::Lefted { node } => {
             State { node, ..t }.back_kept(keep(cells, from(t.used), LEFT, v, 0))
         }
         Frame::Righted { node } => {
             State { node, ..t }.back_kept(keep(cells, from(t.used), RIGHT, v, 0))
         }
-        Frame::Paired { node, held } => {
-            State { node, ..t }.back_kept(keep(cells, from(t.used), PAIR, held, v))
-        }
+        Frame::Pair { half, node, held } => match half {
+            Half::Left => {
+                let frame = Frame::Pair {
+                    half: Half::Right,
+                    node,
+                    held: v,
+                };
+                Ok(down(frames, t, frame, right_at(nodes, node), held))
+            }
+            Half::Right => {
+                State { node, ..t }.back_kept(keep(cells, from(t.used), PAIR, held, v))
+            }
+        },
     }
 }
 
