@@ -35,6 +35,7 @@ pub fn side(book: &Book, m: u8, t: u16, k: usize) -> Option<u16>
 }
 
 // Place k of n in a balanced tree of sums or of products.
+#[inline(always)]
 pub fn place(book: &Book, m: u8, t: u16, n: u32, k: u32) -> Option<u16>
     requires stands { StandsIn book.now t TYPE }
     requires sort { T (is_sort m) }
