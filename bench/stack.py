@@ -296,18 +296,18 @@ def calls():
         yield f"RUN: {name}", struct.pack("<BIIIII", 1, len(nodes) // 5, *lengths) + book + nodes
 
 
-def answer(under, request, stack):
+def answer(request, stack):
     """The call's number, place, count and cell with so much stack, or None where that is too little."""
-    done = subprocess.run([*under, SERVICE, str(stack)], input=request, stdout=subprocess.PIPE, stderr=subprocess.DEVNULL)
+    done = subprocess.run([SERVICE, str(stack)], input=request, stdout=subprocess.PIPE, stderr=subprocess.DEVNULL)
     return struct.unpack("<IIII", done.stdout[:16]) if done.returncode == 0 else None
 
 
-def least_stack(under, request):
+def least_stack(request):
     """The least number of pages with which the call answers."""
     low, high = 0, MOST // PAGE
     while low + 1 < high:
         middle = (low + high) // 2 if high < MOST // PAGE else 2 * max(low, 16)
-        if answer(under, request, PAGE * middle):
+        if answer(request, PAGE * middle):
             high = middle
         else:
             low = middle
@@ -315,16 +315,15 @@ def least_stack(under, request):
 
 
 def main():
-    build = os.path.join(ROOT, "compare", "library", "build")
-    under = subprocess.run([build], stdout=subprocess.PIPE, text=True, check=True).stdout.splitlines()
+    subprocess.run([os.path.join(ROOT, "compare", "library", "build")], check=True)
     worst = {}
     for name, request in calls():
         if not all(word in name for word in sys.argv[1:]):
             continue
-        answered = answer(under, request, MOST)
+        answered = answer(request, MOST)
         if answered is None:
             raise SystemExit(f"{name}: no answer with {MOST} bytes of stack")
-        stack = PAGE * least_stack(under, request)
+        stack = PAGE * least_stack(request)
         call = name.partition(":")[0]
         worst[call] = max(worst.get(call, 0), stack)
         print(f"| {name} | {len(request)} | {answered} | {stack} |", flush=True)

@@ -11,7 +11,7 @@ use model::lower::{lower, trace};
 use model::Refusal;
 
 use crate::nodes::ROOM;
-use crate::service::{least_room, Answer, Service, Start, FULL, LONGER};
+use crate::service::{least_room, start, Answer, Service, FULL, LONGER};
 
 /// The bytes of `lowerbook`'s table.
 const LOWERBOOK: usize = 5 * 13_000;
@@ -111,7 +111,7 @@ fn is_original(case: &Case, symbols: bool, lowered: &Answer) -> Result<(), Strin
 
 /// What `lowerbook` prints for one book is the listing of the original's nodes
 /// where it is asked, else of the model's, or the refusal: whether it was one.
-pub fn prints(start: &Start, path: &str, case: &Case, ask: bool) -> Result<bool, String> {
+pub fn prints(path: &str, case: &Case, ask: bool) -> Result<bool, String> {
     let ours = modelled(&case.book, false, LOWERBOOK);
     let text = match ours.number {
         0 => original::listing(&ours.table[..5 * ours.count as usize]),
@@ -120,7 +120,7 @@ pub fn prints(start: &Start, path: &str, case: &Case, ask: bool) -> Result<bool,
     if ask && matches!(ours.number, 0 | 10) && original_text(case).as_ref() != Some(&text) {
         return Err("the model's listing is not the original's".to_string());
     }
-    let mut child = start.program(path)?;
+    let mut child = start(path)?;
     let mut input = child.stdin.take().expect("it is piped");
     input
         .write_all(&case.book)

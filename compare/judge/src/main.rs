@@ -5,11 +5,10 @@
 //!     judge store             writes the original's answers to a sample
 //!     judge reads COUNT       writes vectors for READ to standard output
 //!     judge checks COUNT      and for CHECK, of COUNT books of each sort
-//!     judge library COUNT SERVICE LOWERBOOK [WORD]...
+//!     judge library COUNT SERVICE LOWERBOOK
 //!                             all calls in Rattle on COUNT books or more of
 //!                             each sort, through the program of
-//!                             `compare/library`, and `lowerbook` on some; what
-//!                             programs are started under comes last
+//!                             `compare/library`, and `lowerbook` on some
 
 mod answers;
 mod demand;
@@ -29,7 +28,7 @@ use std::process::ExitCode;
 use gen::{damage, hostile, scoped, systematic, typed, Case};
 use model::book;
 use model::check::check;
-use service::{Service, Start};
+use service::Service;
 
 /// Where the stored answers and the vectors of READ and CHECK are, from this
 /// crate.
@@ -227,8 +226,8 @@ fn each_sort<T: Send>(
 }
 
 /// READ and CHECK in Rattle against the model.
-fn compare_checks(some: usize, service: &str, start: &Start) -> Result<(), String> {
-    let service = Service::new(start, service)?;
+fn compare_checks(some: usize, service: &str) -> Result<(), String> {
+    let service = Service::new(service)?;
     let cases = vectors::checks(some);
     let case = |number: usize| cases[number].clone();
     let numbers = each(cases.len(), case, |case| library::judges(&service, case))?;
@@ -253,8 +252,8 @@ fn compare_checks(some: usize, service: &str, start: &Start) -> Result<(), Strin
 }
 
 /// LOWER in Rattle against both judges.
-fn compare_library(some: usize, service: &str, start: &Start) -> Result<(), String> {
-    let service = Service::new(start, service)?;
+fn compare_library(some: usize, service: &str) -> Result<(), String> {
+    let service = Service::new(service)?;
     let seen = each_sort(some, |case, ask| library::agrees(&service, case, ask))?;
     let met = |number: &u32| seen.iter().any(|seen| seen.numbers.contains(number));
     if let Some(number) = (0..=12).find(|number| !met(number)) {
@@ -272,8 +271,8 @@ fn compare_library(some: usize, service: &str, start: &Start) -> Result<(), Stri
 }
 
 /// RUN in Rattle against the model.
-fn compare_runs(some: usize, service: &str, start: &Start) -> Result<(), String> {
-    let service = Service::new(start, service)?;
+fn compare_runs(some: usize, service: &str) -> Result<(), String> {
+    let service = Service::new(service)?;
     let mut seen = Vec::new();
     for family in runs::families(some) {
         let judge = |table: &_| runs::agrees(&service, table, family.close);
@@ -299,8 +298,8 @@ fn compare_runs(some: usize, service: &str, start: &Start) -> Result<(), String>
 }
 
 /// `some` inputs at random, from a number on.
-fn fuzz(some: usize, from: usize, service: &str, start: &Start) -> Result<(), String> {
-    let service = Service::new(start, service)?;
+fn fuzz(some: usize, from: usize, service: &str) -> Result<(), String> {
+    let service = Service::new(service)?;
     let (mut tally, mut done) = (fuzz::Tally::default(), 0);
     while done < some {
         let few = BATCH.min(some - done);
@@ -326,10 +325,8 @@ fn fuzz(some: usize, from: usize, service: &str, start: &Start) -> Result<(), St
 }
 
 /// What `lowerbook` prints, against both judges.
-fn compare_listings(some: usize, lowerbook: &str, start: &Start) -> Result<(), String> {
-    let refused = each_sort(some, |case, ask| {
-        library::prints(start, lowerbook, case, ask)
-    })?;
+fn compare_listings(some: usize, lowerbook: &str) -> Result<(), String> {
+    let refused = each_sort(some, |case, ask| library::prints(lowerbook, case, ask))?;
     say(&format!(
         "lowerbook prints the listing of {} books and the refusal of {}",
         count(&refused, false),
@@ -421,18 +418,16 @@ fn main() -> ExitCode {
         ["store"] => store(),
         ["reads", some] => number(some).and_then(write_reads),
         ["checks", some] => number(some).and_then(write_checks),
-        ["library", some, service, lowerbook, ref under @ ..] => {
-            let start = Start { under };
-            number(some).and_then(|some| {
-                compare_checks(some, service, &start)?;
-                compare_library(some, service, &start)?;
-                compare_runs(some, service, &start)?;
-                compare_listings(LISTINGS, lowerbook, &start)
-            })
+        ["library", some, service, lowerbook] => number(some).and_then(|some| {
+            compare_checks(some, service)?;
+            compare_library(some, service)?;
+            compare_runs(some, service)?;
+            compare_listings(LISTINGS, lowerbook)
+        }),
+        ["fuzz", some, from, service] => {
+            number(some).and_then(|some| fuzz(some, number(from)?, service))
         }
-        ["fuzz", some, from, service, ref under @ ..] => number(some)
-            .and_then(|some| fuzz(some, number(from)?, service, &Start { under })),
-        _ => Err("usage: judge gate [FILE]... | nightly COUNT | store | reads COUNT | checks COUNT | library COUNT SERVICE LOWERBOOK [WORD]... | fuzz COUNT FROM SERVICE [WORD]...".to_string()),
+        _ => Err("usage: judge gate [FILE]... | nightly COUNT | store | reads COUNT | checks COUNT | library COUNT SERVICE LOWERBOOK | fuzz COUNT FROM SERVICE".to_string()),
     };
     match done {
         Ok(()) => ExitCode::SUCCESS,

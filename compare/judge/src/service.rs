@@ -87,21 +87,13 @@ pub fn least_room(fits: impl Fn(usize) -> bool) -> Option<usize> {
     Some(least)
 }
 
-/// How programs are started here: under the kit's loader and C library.
-pub struct Start<'a> {
-    pub under: &'a [&'a str],
-}
-
-impl Start<'_> {
-    pub fn program(&self, path: &str) -> Result<Child, String> {
-        let words: Vec<&str> = self.under.iter().copied().chain([path]).collect();
-        Command::new(words[0])
-            .args(&words[1..])
-            .stdin(Stdio::piped())
-            .stdout(Stdio::piped())
-            .spawn()
-            .map_err(|error| format!("{}: {error}", words[0]))
-    }
+/// Starts a program, to be asked through pipes.
+pub fn start(path: &str) -> Result<Child, String> {
+    Command::new(path)
+        .stdin(Stdio::piped())
+        .stdout(Stdio::piped())
+        .spawn()
+        .map_err(|error| format!("{path}: {error}"))
 }
 
 /// A call that takes longer hangs. The limit is wide, so that a busy machine
@@ -122,8 +114,8 @@ struct Running {
 }
 
 impl Running {
-    fn new(start: &Start, path: &str) -> Result<Running, String> {
-        let mut child = start.program(path)?;
+    fn new(path: &str) -> Result<Running, String> {
+        let mut child = start(path)?;
         Ok(Running {
             requests: child.stdin.take().expect("it is piped"),
             replies: child.stdout.take().expect("it is piped"),
@@ -190,9 +182,9 @@ pub struct Calls {
 pub struct Service(Vec<Mutex<Running>>);
 
 impl Service {
-    pub fn new(start: &Start, path: &str) -> Result<Service, String> {
+    pub fn new(path: &str) -> Result<Service, String> {
         let programs = std::thread::available_parallelism().map_or(1, usize::from);
-        let running = (0..programs).map(|_| Running::new(start, path));
+        let running = (0..programs).map(|_| Running::new(path));
         let running: Vec<Running> = running.collect::<Result<_, _>>()?;
         let watched = running.iter().map(|one| one.watched.clone()).collect();
         std::thread::spawn(move || watch(watched));
