@@ -18,7 +18,7 @@
  *   anything, since nothing is read or written there.
  * - The table that is written shares no byte with what is read.
  * - The thread has stack enough. LOWER took up to 733,184 bytes on the worst books that we know, and 1 MB was always
- *   enough. RUN took 81,920 bytes, whatever it was given. docs/PERFORMANCE.md has what was measured.
+ *   enough. RUN took 86,016 bytes, whatever it was given. docs/PERFORMANCE.md has what was measured.
  *
  * Neither call judges types. That RUN gives what the source means is proved for books that CHECK passes: have a book
  * checked first, by the program checkbook, and keep the bytes that passed. Of any other book RUN's answer is still the

@@ -13,7 +13,7 @@
  * the same after it. A slice of no bytes points to nowhere. The call has STACK bytes of stack, 4 MiB where none is
  * given, and what needs more dies of it.
  *
- * The kit has no C headers, so what is used of the C library is declared here, as it is on x86-64.
+ * It takes no header of the C library: what is used of that is declared here, as it is on x86-64.
  */
 #include "simplicityhl.h"
 
