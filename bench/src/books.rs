@@ -242,6 +242,59 @@ pub fn nodes(count: usize) -> Case {
     case(&writer)
 }
 
+/// Many folds of empty lists, by a function that gives its accumulator.
+fn list_folds(count: usize, bound: usize) -> Case {
+    let mut writer = Writer::new();
+    let unit = writer.unit();
+    let list = writer.list(unit, bound);
+    let kept = writer.variable(unit, 2);
+    let function = writer.function(&[(1, unit), (2, unit)], kept);
+    let folds: Vec<Id> = (0..count)
+        .map(|_| {
+            let none = writer.record("el", &[list, bound, 0]);
+            let start = writer.unit_expression();
+            writer.record("cq", &[unit, function, bound, none, start])
+        })
+        .collect();
+    writer.tuple_expression(&folds);
+    case(&writer)
+}
+
+/// Many loops that stop at their first count.
+fn loops(count: usize, width: usize) -> Case {
+    let mut writer = Writer::new();
+    let (unit, bit, counter) = (writer.unit(), writer.bit(), writer.word(width));
+    let start = writer.variable(unit, 1);
+    let stop = writer.record("e0", &[bit, start]);
+    let function = writer.function(&[(1, unit), (2, unit), (3, counter)], stop);
+    let loops: Vec<Id> = (0..count)
+        .map(|_| {
+            let [start, context] = [(); 2].map(|()| writer.unit_expression());
+            writer.record("cw", &[bit, function, width, start, context])
+        })
+        .collect();
+    writer.tuple_expression(&loops);
+    case(&writer)
+}
+
+/// Many matches of 256 arms, each on the first variant.
+fn wide_matches(count: usize) -> Case {
+    let mut writer = Writer::new();
+    let (unit, nothing) = (writer.unit(), writer.record("pn", &[]));
+    let ty = writer.variants(&[unit; 256]);
+    let matches: Vec<Id> = (0..count)
+        .map(|_| {
+            let first = writer.record("en", &[ty, 0, 256, 0]);
+            let arms: Vec<Id> = (0..256)
+                .flat_map(|_| [nothing, writer.unit_expression()])
+                .collect();
+            writer.row("eh", &[unit, first], 2, &arms, &[])
+        })
+        .collect();
+    writer.tuple_expression(&matches);
+    case(&writer)
+}
+
 /// All that the calls are compared on: `vault` is the example of five arms.
 pub fn all(vault: Case) -> Vec<Given> {
     let mut full = types(10_922, false);
@@ -256,6 +309,9 @@ pub fn all(vault: Case) -> Vec<Given> {
         ("a loop of width 8", counted(8)),
         ("nested folds", nested_folds()),
         ("65,535 nodes", nodes(65_535)),
+        ("150 list folds of bound 256", list_folds(150, 256)),
+        ("60 loops of width 16", loops(60, 16)),
+        ("15 matches of 256 arms", wide_matches(15)),
     ]
     .map(|(label, case)| Given::new(label, case))
     .into()
