@@ -36,6 +36,17 @@ fn byte(t: &[u8], i: usize) -> u8
     t.get(i).copied().unwrap_or(0)
 }
 
+// A number of which the table has the low byte at most. It is kept out of line, so that where the table has both no jump is taken: the
+// machine reads numbers at each turn, and its processor guesses a turn by the jumps before it. With it in line a run of pairs took a fifth
+// longer.
+#[cold]
+#[inline(never)]
+fn low_byte(t: &[u8], i: usize) -> u16
+    ensures { result ≡ slice_index t.now i }
+{
+    byte(t, i) as u16
+}
+
 // The two bytes at i and after it as a number. Where both are there, one test is enough.
 fn pair_at(t: &[u8], i: usize) -> u16
     requires { i < 1000000 }
@@ -44,7 +55,7 @@ fn pair_at(t: &[u8], i: usize) -> u16
     if i + 1 < t.len() {
         word(t, i)
     } else {
-        byte(t, i) as u16
+        low_byte(t, i)
     }
 }
 
