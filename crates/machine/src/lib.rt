@@ -76,7 +76,7 @@ pub enum Half {
 
 // What is left to do at a node once a child has given a value: to hand the value on; to run the other child on it; to store the left or the
 // right of the value; and of a pair, to run the right child on the cell that is held, or to store the pair of the cell that is held and the
-// value. The halves of a pair are one case: as two of six, all reached through one table of jumps, a run of pairs took a fifth to a quarter
+// value. The halves of a pair are one case: as two of six, all reached through one table of jumps, a run of pairs took up to two fifths
 // longer.
 #[derive(Clone, Copy)]
 pub enum Frame {
