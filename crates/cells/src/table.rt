@@ -36,9 +36,9 @@ fn byte(t: &[u8], i: usize) -> u8
     t.get(i).copied().unwrap_or(0)
 }
 
-// A number of which the table has the low byte at most. It is kept out of line, so that where the table has both no jump is taken: the
-// machine reads numbers at each turn, and its processor guesses a turn by the jumps before it. With it in line a run of pairs took a fifth
-// longer.
+// A number that the table ends within: its low byte, or 0. It is read out of line, so that no jump is taken where both bytes are there. The
+// machine reads numbers at each turn, and the processor guesses a turn by the jumps that were taken before it: in line, a run of pairs took a
+// fifth longer.
 #[cold]
 #[inline(never)]
 fn low_byte(t: &[u8], i: usize) -> u16
