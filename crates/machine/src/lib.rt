@@ -314,14 +314,13 @@ fn back_to(
     requires { (s.step ≡ Step.Back) × ((s.depth ≡ 0 → ⊥) × (s.depth ≤ DEEP)) }
     ensures { (b : Text) (ws : List ℕ) → Turned (given b ws nodes.now) cells.old frames.old s cells.new frames.new result }
 {
-    let d = s.depth - 1;
     let v = s.value;
     let t = State {
-        depth: d,
+        depth: s.depth - 1,
         node: 0,
         ..s
     };
-    match frames[d] {
+    match frames[t.depth] {
         Frame::Skip => Ok(t),
         Frame::Second { node } => Ok(down(frames, t, Frame::Skip, right_at(nodes, node), v)),
         Frame::Lefted { node } => {

@@ -44,7 +44,7 @@ pub record Scoped (b i : List ℕ) (q : Judge) (n : ℕ) (base : Option ℕ) : T
 pub record Enough (b i : List ℕ) (r n : ℕ) : Type 0 where
   pub room : n + 256 * depth b i r ≤ 65280
 
--- a judgement that comes to v gave c; the names, the memo that was lent and the n live bindings stay as they were
+-- a judgement that comes to v gave c; the memo is still the row that was lent, and the names and the n live bindings stay as they were
 pub record Stays (b i : List ℕ) (v : Checked) (n : ℕ) (q : Judge) (c : Checked) (q' : Judge) : Type 0 where
   pub is : c ≡ v
   pub doubled : q'.doubled.now ≡ q.doubled.now
